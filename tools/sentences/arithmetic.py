@@ -1,8 +1,8 @@
 """Numbers: terms as Python, equations solved for what is not known, and how large a number can be."""
 import re
 
-from .clauses import Program, modules_env
-from .terms import NIL, Clause, equations, fn, folded, free, is_fn, proj, rel
+from .clauses import Program
+from .terms import NIL, equations, fn, folded, free, is_fn, proj, rel
 
 FORMS = {"-": "max(%s - %s, 0)", "suc": "(%s + 1)", "pos": "%s", "negsuc": "(-1 - %s)", "natAbs": "abs(%s)", "length": "%s.n", "getD": "getD(%s, %s, %s)",
          "take": "cut(%s, %s)[0]", "drop": "cut(%s, %s)[1]", "[]": "NONE", "replicate": "Seq((%s,) * %s)", "++": "Seq(%s.items() + %s.items())",
@@ -76,22 +76,6 @@ class Arithmetic(Program):
         if op in ("/", "%") and args[1].isdigit() and args[1] != "0":
             return "(%s %s %s)" % (args[0], "//" if op == "/" else "%", args[1])
         return FORMS[op] % tuple(args[::-1] if op in ("take", "drop", "replicate") else args)
-
-    def cases(self, d):
-        """A definition by cases, as a Python function."""
-        if d in self.functions:
-            return self.functions[d]
-        self.functions[d] = name = "u%d" % len(self.functions)
-        n = len(d.of_modules)
-        args = [self.fresh("a") for _ in range(n + len(d.eqs[0][0]))]
-        lines = ["def %s(%s):" % (name, listed(args))]
-        for patterns, body in d.eqs:
-            env = modules_env(d, [("var", v) for v in args[:n]])
-            goals = [rel("==", ("var", v), self.pattern(p, env, d.ctx)) for v, p in zip(args[n:], patterns)]
-            (steps, _), = self.plan(Clause("", [], goals, []), set(args), [])
-            lines += [" while True:"] + self.emit(steps, 2, "break")[0] + ["  return " + self.py(self.inst(body, env, d.ctx))]
-        self.define(lines)
-        return name
 
     def pattern(self, p, env, ctx):
         if p[0] == "id" and p[1] not in ("[]", "zero") and self.lib.lookup(ctx[0], p[1])[0] != "con":

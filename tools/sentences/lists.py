@@ -42,7 +42,6 @@ class Lists(Arithmetic):
                 at = self.length_of(a[2][0][1], st)
                 if at:
                     return st.took(g, *self.split(a, b, at))
-        return False
 
     def by_pieces(self, st):
         """A known list begins with what a definition by cases makes of each element of an unknown one."""
@@ -60,7 +59,6 @@ class Lists(Arithmetic):
                     known = "".join(ident(v) + ", " for v in given)
                     steps = [("for", "(%s)" % listed((front[1], r[1])), "pieces(%s, (%s), %s)" % (p, known, self.py(b)), 0)]
                     return st.took(g, steps, [rel("==", of, front), rel("==", a[2][1], r)], [front[1], r[1]])
-        return False
 
     def piece_of(self, d, args):
         """Of `f .. [] = []` and `f .. (x ∷ l) = g .. x ++ f .. l`: x, and g .. x."""
@@ -87,7 +85,6 @@ class Lists(Arithmetic):
                 name = self.helper("member", given, [k], premises)
                 if name:
                     return st.let(v, "ranked(%s(%s), %s)" % (name, listed(given), before[0]))
-        return False
 
     def order_of(self, v, g, st):
         """Of "i < j → j < length l → .." what is said of the two elements, as a Python function of them."""
@@ -118,7 +115,6 @@ class Lists(Arithmetic):
                 own = [x for x in frees(premises) if x != k and x not in frees(have)]
                 if all(any(c.label == p.label and all(a == b or b[1] in own for a, b in zip(c.parts, p.parts)) for c in have) for p in premises):
                     return True
-        return False
 
     # ---- element by element
     def by_elements(self, st):
@@ -138,7 +134,6 @@ class Lists(Arithmetic):
             if name:
                 st.let(n[1], size, 0)
                 return st.search(v, "elementwise(%s, (%s,), %s)" % (name, listed(given), ident(n[1])))
-        return False
 
     def tails(self, st):
         """A universal over all numbers: past the ends of the lists that it looks into, its conclusion no longer depends on the number."""
@@ -157,7 +152,6 @@ class Lists(Arithmetic):
                 low, _, met = self.bounds(x, st.goals, st.bound)
                 past = " and ".join(self.pure(g, st.bound) for g in conclusion)
                 return st.search(x, "range(%s, past_ends(%s, [0, %s]))" % (low, past, ", ".join(ends)), met)
-        return False
 
     # ---- all of some lists, from what is said of elements wherever they stand
     def build_lists(self, st):

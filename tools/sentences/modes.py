@@ -1,7 +1,7 @@
 """The order in which the premises of a clause are met when some of its arguments are known: tests first, then equations that find something, then other
 sentences, and where nothing goes on, a number of which it is known how large it can be."""
 from .arithmetic import elements, ident, listed
-from .clauses import PAIR
+from .clauses import PAIR, modules_env
 from .lists import Lists, length
 from .terms import NIL, Clause, equations, false, folded, free, frees, is_fn, rel, subst, subterms
 
@@ -48,26 +48,32 @@ class State:
 
 
 class Modes(Lists):
-    def plan(self, c, bound, needed, me=None, endless=False):
-        """[(steps, known)], one for each way of going on, or None"""
-        return self.planned(State(c, c.goals, bound, needed, me, endless))
-
     def planned(self, st):
+        """[(steps, known)], one for each way of going on, or None"""
         while st.goals or not all(v in st.bound for v in st.needed):
-            if any(false(g) for g in st.goals):
-                return self.ended(st, [("guard", "False")])
             if not any(rule(st) for rule in self.rules()):
                 return self.fork(st)
         return [(st.steps, st.bound)]
 
-    def ended(self, st, steps):
-        """A way that ends before everything is known."""
-        return [(st.steps + steps, st.bound | set(st.needed) | set(frees(st.goals)))]
+    def cases(self, d):
+        """A definition by cases, as a Python function."""
+        if d in self.functions:
+            return self.functions[d]
+        self.functions[d] = name = "u%d" % len(self.functions)
+        n = len(d.of_modules)
+        args = [self.fresh("a") for _ in range(n + len(d.eqs[0][0]))]
+        lines = ["def %s(%s):" % (name, listed(args))]
+        for patterns, body in d.eqs:
+            env = modules_env(d, [("var", v) for v in args[:n]])
+            goals = [rel("==", ("var", v), self.pattern(p, env, d.ctx)) for v, p in zip(args[n:], patterns)]
+            (steps, _), = self.planned(State(Clause("", [], goals, []), goals, args, []))
+            lines += [" while True:"] + self.emit(steps, 2, "break")[0] + ["  return " + self.py(self.inst(body, env, d.ctx))]
+        self.define(lines)
+        return name
 
     def rules(self):
-        return (self.easy, self.call, self.record_apart, self.structured, self.digits, self.dear_call, self.few, self.least,
-                self.ends_of_range, self.endless_count, self.tails, self.by_length,
-                self.by_pieces, self.by_members, self.build_lists, self.by_elements, self.short_list)
+        return (self.easy, self.call, self.record_apart, self.structured, self.digits, self.dear_call, self.few, self.least, self.ends_of_range, self.endless_count, self.tails,
+                self.by_length, self.by_pieces, self.by_members, self.build_lists, self.by_elements, self.short_list)
 
     def easy(self, st):
         for g in st.goals:
@@ -82,18 +88,17 @@ class Modes(Lists):
             r = self.meet(g, st)
             if r:
                 return st.took(g, *r)
-        return False
 
-    def call(self, st, most=0):
+    def call(self, st, costs=(0,)):
         """Another sentence that finds something, if it does not have to try every value of a number that is only known to be so large."""
-        for g in st.goals:
-            r = self.meet(g, st) if g.kind in ("call", "or") and not self.known(g, st.bound) else None
-            if r and sum(s[3] for s in r[0] if s[0] == "for") <= most:
-                return st.took(g, *r)
-        return False
+        for most in costs:
+            for g in [g for g in st.goals if g.kind in ("call", "or") and not self.known(g, st.bound)]:
+                r = self.meet(g, st)
+                if r and sum(s[3] for s in r[0] if s[0] == "for") <= most:
+                    return st.took(g, *r)
 
     def dear_call(self, st):
-        return any(self.call(st, most) for most in (1, 2, 3, 99))
+        return self.call(st, (1, 2, 3, 99))
 
     def cost(self, p, mask):
         """How many numbers are tried with every value that they may have."""
@@ -161,7 +166,7 @@ class Modes(Lists):
     def planned_clause(self, p, c, mask):
         goals = [rel("==", ("var", v), h) for v, h, m in zip(p.args, c.head, mask) if m and h != ("var", v)]
         needed = [v for h, m in zip(c.head, mask) if not m for v in free(h)]
-        r = self.plan(Clause(c.name, c.vars, goals + c.goals, c.head, fa=c.fa), [v for v, m in zip(p.args, mask) if m], needed, (p, mask), p.endless)
+        r = self.planned(State(c, goals + c.goals, [v for v, m in zip(p.args, mask) if m], needed, (p, mask), p.endless))
         return r and [(c, steps, bound) for steps, bound in r]
 
     def smaller(self, at, mask):
@@ -170,7 +175,6 @@ class Modes(Lists):
         for v, h, a, m in zip(me[0].args, c.head, args, mask):
             if m and (is_fn(h, "suc", "+") and a in h[2] or is_fn(h, "∷") and a in list(subterms(h))[1:] or self.relaxed and a != h and a != ("var", v)):
                 return True
-        return False
 
     def fork(self, st):
         """Where nothing goes on: a choice, or a sentence that does not rest on itself, put in its place, each of its constructors by itself."""
@@ -202,7 +206,8 @@ class Modes(Lists):
     def tested(self, st):
         """Where a way cannot be gone on, but is open only where known numbers are so: that is tested, and if they are, nothing is answered."""
         tests = [p for g in st.goals for p in [self.pure(g, st.bound)] if p]
-        return self.ended(st, [("guard", p) for p in tests] + [("flounder", "a way that no order of premises goes")]) if self.testing and tests else None
+        steps = st.steps + [("guard", p) for p in tests] + [("flounder", "a way that no order of premises goes")]
+        return [(steps, st.bound | {*st.needed, *frees(st.goals)})] if self.testing and tests else None
 
     # ---- where nothing can be met as it stands
     def record_apart(self, st):
@@ -217,23 +222,17 @@ class Modes(Lists):
             if fields:
                 st.seen.add(v)
                 return st.put(v, ("rec", tuple(n for n, _ in fields), tuple(self.var(n, t) for n, t in fields)))
-        return False
 
     def structured(self, st):
         """x ≡ a ∷ b: x becomes that."""
         for g, a, b in equations(st.goals):
             if id(g) not in st.seen and (b[0] in ("rec", "con") or is_fn(b, "∷", "[]")) and a[0] == "var" and a[1] not in st.bound and a[1] not in free(b):
                 return st.put(a[1], b, g)
-        return False
-
-    def differences(self, st):
-        """(constant, {unknown: factor}) of each equation in two unknowns or more."""
-        return [d for d in (self.difference(g, st.bound) for g in st.goals if g.label == "==") if d and len(d[1]) > 1]
 
     def digits(self, st):
         """c + k x + l y + .. ≡ 0, where each but x can only be so large."""
-        for c, factors in self.differences(st):
-            if not all(isinstance(k, int) and self.type_of.get(v) == "nat" for v, k in factors.items()):
+        for c, factors in filter(None, (self.difference(g, st.bound) for g in st.goals if g.label == "==")):
+            if len(factors) < 2 or not all(isinstance(k, int) and self.type_of.get(v) == "nat" for v, k in factors.items()):
                 continue
             x = max(factors, key=lambda v: abs(factors[v]))
             k, tops = factors.pop(x), {v: self.bounds(v, st.goals, st.bound)[1] for v in factors}
@@ -241,7 +240,6 @@ class Modes(Lists):
                 least, most = (" + ".join(["0"] + ["%d * (%s)" % (n, tops[v]) for v, n in factors.items() if n * sign > 0]) for sign in (-1, 1))
                 sums = ("-(%s) - (%s)" % (c, s) for s in (most, least)) if k > 0 else ("(%s) + (%s)" % (c, s) for s in (least, most))
                 return st.search(x, "range(max(0, -((%s) // -%d)), (%s) // %d + 1)" % tuple(y for s in sums for y in (s, abs(k))))
-        return False
 
     def few(self, st):
         """One of a few values, or a number with a highest."""
@@ -257,7 +255,6 @@ class Modes(Lists):
                 once = v not in st.needed and v not in frees(left)     # where nothing else asks for it, the lowest will do
                 cost = int(not met and any(g.kind == "call" and v in free(g) for g in st.goals))
                 return st.search(v, "range(%s, %s + 1)%s" % (low, high, "[:1]" if once else ""), met, cost)
-        return False
 
     def least(self, st):
         """".. and no other is lower": the first that there is bounds it."""
@@ -277,7 +274,6 @@ class Modes(Lists):
                 st.bound |= {x[1] for x in new.values()}
                 st.goals.append(subst(conclusion[0], new))
                 return True
-        return False
 
     def ends_of_range(self, st):
         """All from low to low + n, and 0 < n: so the first of them, and the last."""
@@ -297,12 +293,10 @@ class Modes(Lists):
                 m = dict({v: self.copy(v) for v in further}, **{b: end})
                 st.goals += [subst(x, m) for x in conclusion]
             return True
-        return False
 
     def endless_count(self, st):
         for v in [v for v in st.unknown() if st.endless and self.type_of.get(v) == "nat"]:
             return st.search(v, "itertools.count(%s)" % self.bounds(v, st.goals, st.bound)[0])
-        return False
 
     def short_list(self, st):
         """A list of so many elements, each looked at by its place, becomes as many unknowns."""
@@ -315,4 +309,3 @@ class Modes(Lists):
                         e = ("fn", "∷", (self.var("e", "nat"), e))
                     if not any(is_fn(x, "getD") and elements(x[2][0])[0] for y in st.goals for x in subterms(subst(y, {v: e}))):
                         return st.put(v, e)
-        return False
