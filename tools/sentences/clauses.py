@@ -249,9 +249,7 @@ class Program:
             names = found + [env[n][1] for (n, _, _), h in zip(params, higher) if not h]
             env.update(modules_env(d, [env[p[0]] for p in d.of_modules]))
             own = [self.fresh(n, self.kind(t, d.ctx)) for n, t in indices]
-            anything = [n for n, _, implicit in d.params if implicit]   # what is of any type, or a record, is taken apart where it is given
-            big = [self.is_record(v) or t[0] == "id" and t[1] in anything for v, (_, t) in zip(own, indices)]
-            p = self.preds[key] = Pred(d.name, names + own, len(own), lambda: self.clauses(d, env, names, len(own)), d, big)
+            p = self.preds[key] = Pred(d.name, names + own, len(own), lambda: self.clauses(d, env, names, len(own)), d)
             p.label = d.name + "".join(" (%s)" % self.called(a) for h, a in zip(higher, args) if h)
             p.captured = len(found)
         return self.preds[key], tuple(("var", v) for v in found) + plain

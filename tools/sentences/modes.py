@@ -123,7 +123,7 @@ class Modes(Lists):
         mask = [self.known(a, st.bound) for a in args]
         at = None if g.kind == "not" else (st.c, st.me, args)
         for i in reversed(range(len(args) - p.indices, len(args))):    # an index is rather found than given, so that its table serves every value
-            if mask[i] and not p.big[i - (len(args) - p.indices)]:
+            if mask[i]:
                 mask[i], relaxed, self.relaxed = False, self.relaxed, False
                 mask[i] = not self.ok(p, tuple(mask), at) or self.cost(p, tuple(mask)) > 0
                 self.relaxed = relaxed

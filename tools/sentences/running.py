@@ -19,9 +19,9 @@ class Runner(Modes):
         self.functions, self.tops, self.topping, self.builds, self.tables, self.why = {}, {}, [], [], {}, {}
         self.reset()
 
-    def reset(self, relaxed=False, lenient=None):
+    def reset(self, lenient=None):
         self.modes, self.bad, self.done, self.compiled = {}, {False: set(), True: set()}, [], set()
-        self.relaxed, self.lenient, self.testing = relaxed, lenient, False
+        self.relaxed, self.lenient, self.testing = True, lenient, False
 
     def function(self, p, mask):
         return "p%d_%s" % (p.id, "".join("io"[not m] for m in mask))
@@ -114,8 +114,8 @@ class Runner(Modes):
             raise Floundered("%s is no sentence of an outcome" % d.name)
         p, order = goals[0].label, [vs.index(a[1]) for a in goals[0].parts]
         mask = tuple(i != count - 1 for i in order)
-        for relaxed, lenient in ((False, None), (True, None), (True, p)):
-            self.reset(relaxed, lenient)
+        for lenient in (None, p):
+            self.reset(lenient)
             if self.ok(p, mask, None):
                 return p, mask, order
         raise Floundered("%s: no order of its premises finds the outcome" % d.name)

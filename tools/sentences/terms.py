@@ -52,9 +52,9 @@ class Pred:
     """A sentence at its arguments; the last `indices` of them are its indices. anon: made for a choice or a search."""
     count = 0
 
-    def __init__(self, name, args, indices, build, of=None, big=()):
+    def __init__(self, name, args, indices, build, of=None):
         Pred.count += 1
-        self.id, self.name, self.args, self.indices, self.build, self.of, self.big = Pred.count, name, args, indices, build, of, big
+        self.id, self.name, self.args, self.indices, self.build, self.of = Pred.count, name, args, indices, build, of
         self.anon, self.endless, self.label, self.captured = of is None, False, name, 0
 
     @functools.cached_property
