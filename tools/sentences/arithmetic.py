@@ -118,8 +118,6 @@ class Arithmetic(Program):
             if is_fn(a, "getD") and a[2][2] == b and not known and self.known(a[2][0], bound) and self.known(a[2][1], bound):
                 t = self.fresh("t")
                 return [("let", ident(t), "element(%s, %s)" % (self.py(a[2][0]), self.py(a[2][1])))], [rel("==", b, ("var", t))], [t]
-            if a[0] == b[0] == "rec":
-                return [], [rel("==", x, proj(b, f)) for f, x in zip(a[1], a[2])], []
             if b == ("num", 0) and not self.known(a, bound):         # numbers that add up to 0 are 0
                 if is_fn(a, "+"):
                     return [], [rel("==", x, b) for x in a[2]], []
@@ -142,9 +140,8 @@ class Arithmetic(Program):
         """A known value b taken apart as the term a has it."""
         t = self.var("t")
         p, steps = ident(t[1]), [("let", ident(t[1]), self.py(b))]
-        if a[0] in ("rec", "con"):
-            names, test = (a[1], []) if a[0] == "rec" else (map(str, range(1, len(a[2]) + 1)), [("guard", "%s[0] == %r" % (p, a[1]))])
-            return steps + test, [rel("==", x, ("proj", f, (t,))) for f, x in zip(names, a[2])], [t[1]]
+        if a[0] == "rec":
+            return steps, [rel("==", x, ("proj", f, (t,))) for f, x in zip(a[1], a[2])], [t[1]]
         if is_fn(a, "^") and self.known(a[2][0], bound):
             steps = [("let", p, "exponent(%s, %s)" % (self.py(a[2][0]), self.py(b))), ("guard", p + " is not None")]
             return steps, [rel("==", a[2][1], t)], [t[1]]
@@ -199,8 +196,6 @@ class Arithmetic(Program):
         for _ in range(4):
             old, new = self.tops[p], [self.tops_of(c) for c in p.clauses]
             self.tops[p] = [None if None in column else max(column) for column in zip(*new)] if new else old
-            if self.tops[p] == old:
-                break
         self.topping.pop()
         self.tops[p] = [t if t == o else None for t, o in zip(self.tops[p], old)]
         return self.tops[p]
@@ -223,8 +218,6 @@ class Arithmetic(Program):
         if e[1] in ("∷", "++", "[]"):
             parts = [self.top(x, tops) for part in elements(e) for x in part]
             return None if None in parts else max(parts, default=-1)
-        if e[1] == "%":
-            return e[2][1][1] - 1 if e[2][1][0] == "num" and e[2][1][1] else None
         x, *more = [self.top(x, tops) for x in e[2]] if e[1] in ("+", "*", "suc", "pos", "-", "/") else [None]
         if x is None or None in more and e[1] in ("+", "*"):
             return None

@@ -40,11 +40,6 @@ def indices_of(d):
     return [(n, of) for names, of, implicit in arrows(d.sig)[0] if not implicit for n in names or ("y",)]
 
 
-def is_family(d):
-    t = arrows(d.sig)[1]
-    return t[0] == "app" and t[1] == ("id", "Type")
-
-
 def modules_env(d, args):
     """Names of module parameters, and for declarations of the same module what they stand for."""
     env, args = {}, list(args)
@@ -126,24 +121,18 @@ class Program:
             return self.make(d, [env["module", id(b), p] for b in d.blocks if b in ctx[1] for p, _, implicit in b.params if not implicit])
         if found == "con" or n in ARITY:
             return ("con" if found == "con" else "bif", n, ())
-        if n in TYPES or n in ("List", "Type"):
-            return ("ty", n)
         raise NotASentence("%s is not known in %s" % (n, ctx[0].path.name))
 
     def apply(self, e, args):
         k, args = e[0], tuple(args)
-        if not args or k in ("ty", "top"):
+        if not args:
             return e
-        if k == "clo":
-            (params, body, text, names, ctx), env = e[1], dict(zip(e[1][3], e[2]))
-            env.update((n, a) for (n, _), a in zip(params, args))
-            if len(args) < len(params):
-                return ("clo", (params[len(args):], body, text, tuple(env), ctx), tuple(env.values()))
+        if k == "clo" and len(args) >= len(e[1][0]):
+            params, body, _, names, ctx = e[1]
+            env = dict(zip(names, e[2]), **{n: a for (n, _), a in zip(params, args)})
             return self.apply(self.inst(body, env, ctx), args[len(params):])
         if k == "papp":
             return self.make(e[1], e[2] + args)
-        if k == "con":
-            return ("con", e[1], e[2] + args)
         if k == "bif":
             args = e[2] + args
             return fn(e[1], args) if len(args) == ARITY[e[1]] else ("bif", e[1], args)
@@ -166,7 +155,7 @@ class Program:
             return self.apply(("ufn", d, args[:n]), args[n:])
         env = dict(modules_env(d, args[:before]), **{p[1]: a for p, a in zip(patterns, args[before:])})
         e = self.inst(d.eqs[0][1], env, d.ctx)
-        return self.apply(("abbr", d, args[before:n] + (e,)) if is_family(d) else e, args[n:])
+        return self.apply(("abbr", d, args[before:n] + (e,)) if arrows(d.sig)[1][:2] == ("app", ("id", "Type")) else e, args[n:])
 
     # ---- terms to goals
     def goals(self, e, vars, via=()):
@@ -182,8 +171,7 @@ class Program:
         if k == "sig":
             return self.goals(self.opened(e, vars), vars, via)
         if k == "sum":
-            ways = [([], x) for x in parts]
-            return [Goal("or", ways=[(vs, self.goals(x, vs)) for vs, x in ways], src=e[3], via=via)]
+            return [Goal("or", ways=[(vs, self.goals(x, vs)) for x in parts for vs in [[]]], src=e[3], via=via)]
         if k == "pi":
             return [self.universal(e).noted(e[3], via)]
         if k == "call":

@@ -226,7 +226,7 @@ class Modes(Lists):
     def structured(self, st):
         """x ≡ a ∷ b: x becomes that."""
         for g, a, b in equations(st.goals):
-            if id(g) not in st.seen and (b[0] in ("rec", "con") or is_fn(b, "∷", "[]")) and a[0] == "var" and a[1] not in st.bound and a[1] not in free(b):
+            if id(g) not in st.seen and (b[0] == "rec" or is_fn(b, "∷", "[]")) and a[0] == "var" and a[1] not in st.bound and a[1] not in free(b):
                 return st.put(a[1], b, g)
 
     def digits(self, st):

@@ -1,5 +1,6 @@
 """The plans become Python, and the Python is run. Every sentence that is met is kept in a table, with the constructor and its numbers: all outcomes are found,
 so that each run also tests that there is exactly one."""
+import concurrent.futures
 import gc
 import itertools
 import re
@@ -129,19 +130,8 @@ class Runner(Modes):
 
 def deep(work):
     """Runs work where sentences may rest on many others."""
-    out = []
-
-    def run():
-        try:
-            out.append((work(), None))
-        except BaseException as error:
-            out.append((None, error))
     gc.set_threshold(100000)                  # the tables of a run are many small things that all stay
     sys.setrecursionlimit(10 ** 6)
     threading.stack_size(1 << 29)
-    t = threading.Thread(target=run)
-    t.start()
-    t.join()
-    if out[0][1]:
-        raise out[0][1]
-    return out[0][0]
+    with concurrent.futures.ThreadPoolExecutor(1) as one:
+        return one.submit(work).result()
