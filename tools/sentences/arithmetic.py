@@ -116,8 +116,9 @@ class Arithmetic(Program):
             if a[0] == "var" and known:
                 return [("let", ident(a[1]), self.py(b))], [], [a[1]]
             if is_fn(a, "getD") and a[2][2] == b and not known and self.known(a[2][0], bound) and self.known(a[2][1], bound):
-                t = self.fresh("t")
-                return [("let", ident(t), "element(%s, %s)" % (self.py(a[2][0]), self.py(a[2][1])))], [rel("==", b, ("var", t))], [t]
+                t, (xs, i) = self.var("t"), map(self.py, a[2][:2])
+                steps = [("flounder", "%s >= %s.n" % (i, xs), "any element past the end of a list"), ("let", ident(t[1]), "getD(%s, %s, None)" % (xs, i))]
+                return steps, [rel("==", b, t)], [t[1]]
             if b == ("num", 0) and not self.known(a, bound):         # numbers that add up to 0 are 0
                 if is_fn(a, "+"):
                     return [], [rel("==", x, b) for x in a[2]], []
@@ -132,7 +133,8 @@ class Arithmetic(Program):
             (v, k), = d[1].items()
             p = ident(v)
             steps = [("let", p, "-(%s)" % d[0])] if k == 1 else [("let", p, d[0])] if k == -1 else \
-                [("let", p, "exact(-(%s), %s)" % (d[0], k)), ("guard", p + " is not None")]
+                [("let", p, "-(%s)" % d[0]), ("flounder", "%s == (%s) == 0" % (p, k), "0 * x = 0"), ("guard", "mod(%s, %s) == 0" % (p, k)),
+                 ("let", p, "%s // (%s)" % (p, k))]
             return steps + ([] if self.type_of.get(v) == "int" else [("guard", p + " >= 0")]), [], [v]
         return None
 

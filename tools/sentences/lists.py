@@ -150,8 +150,9 @@ class Lists(Arithmetic):
                     conclusion = [replace(h, t, t[2][2]) for h in conclusion]
             if ends and all(v in st.bound for v in frees(conclusion)):
                 low, _, met = self.bounds(x, st.goals, st.bound)
-                past = " and ".join(self.pure(g, st.bound) for g in conclusion)
-                return st.search(x, "range(%s, past_ends(%s, [0, %s]))" % (low, past, ", ".join(ends)), met)
+                past = " and ".join("(%s)" % self.pure(g, st.bound) for g in conclusion)
+                st.steps.append(("flounder", "not (%s)" % past, "past the lists it does not hold"))
+                return st.search(x, "range(%s, max(0, %s))" % (low, ", ".join(ends)), met)
 
     # ---- all of some lists, from what is said of elements wherever they stand
     def build_lists(self, st):

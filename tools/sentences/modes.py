@@ -158,7 +158,7 @@ class Modes(Lists):
                 del self.done[mark:]
                 self.bad[self.relaxed].add(k)
                 return False
-            plans += r or [(c, [("flounder", "%s of %s cannot be run" % (c.name, p.name))], set(c.vars).union(*map(free, c.head)))]
+            plans += r or [(c, [("flounder", "True", "%s of %s cannot be run" % (c.name, p.name))], set(c.vars).union(*map(free, c.head)))]
         self.modes[k] = plans
         self.done.append(k)
         return True
@@ -206,7 +206,7 @@ class Modes(Lists):
     def tested(self, st):
         """Where a way cannot be gone on, but is open only where known numbers are so: that is tested, and if they are, nothing is answered."""
         tests = [p for g in st.goals for p in [self.pure(g, st.bound)] if p]
-        steps = st.steps + [("guard", p) for p in tests] + [("flounder", "a way that no order of premises goes")]
+        steps = st.steps + [("guard", p) for p in tests] + [("flounder", "True", "a way that no order of premises goes")]
         return [(steps, st.bound | {*st.needed, *frees(st.goals)})] if self.testing and tests else None
 
     # ---- where nothing can be met as it stands

@@ -40,7 +40,7 @@ class Runner(Modes):
             elif kind == "guard":
                 lines.append("%sif not (%s): %s" % (pad, rest[0], out))
             elif kind == "flounder":
-                lines.append("%sraise Floundered(%r)" % (pad, rest[0]))
+                lines.append("%sif %s: raise Floundered(%r)" % (pad, *rest))
             else:
                 lines.append("%sfor %s in %s:" % (pad, *rest[:2]))
                 depth, out = depth + 1, "continue"

@@ -38,10 +38,6 @@ class Seq:
     def items(self):
         return self.t[self.at:] if self.at else self.t
 
-    def __repr__(self):
-        shown = self.items() if self.n <= 16 else self.items()[:4]
-        return "[%s%s]" % (", ".join(brief(x) for x in shown), "" if self.n <= 16 else ", .. %d in all" % self.n)
-
 
 class Rec:
     """A record. Two that hold the same are one object, so that tables are searched by identity."""
@@ -55,9 +51,6 @@ class Rec:
             made = cls.known[key] = object.__new__(cls)
             made.d = dict(zip(names, values))
         return made
-
-    def __repr__(self):
-        return "{%s}" % "; ".join("%s = %s" % (k, brief(v)) for k, v in self.d.items())
 
 
 def value(x):
@@ -77,23 +70,20 @@ def plain(x):
 
 
 def brief(v):
-    if v is True or v is False:
-        return str(v).lower()
-    if isinstance(v, tuple) and v and isinstance(v[0], str):
-        return " ".join([v[0]] + [brief(x) for x in v[1:]])
-    return "(%s)" % ", ".join(map(brief, v)) if isinstance(v, tuple) else repr(v)
+    """A value in words, a long list cut short."""
+    if isinstance(v, Seq):
+        shown = map(brief, v.items() if v.n <= 16 else v.items()[:4])
+        return "[%s%s]" % (", ".join(shown), "" if v.n <= 16 else ", .. %d in all" % v.n)
+    if isinstance(v, Rec):
+        return "{%s}" % "; ".join("%s = %s" % (k, brief(x)) for k, x in v.d.items())
+    if isinstance(v, tuple):
+        return v[0] if isinstance(v[0], str) else "(%s)" % ", ".join(map(brief, v))
+    return str(v).lower()
 
 
 # ---- what the code calls: each as the kit's library has it on natural numbers and lists
 def getD(xs, i, default):
     return xs.t[xs.at + i] if i < xs.n else default
-
-
-def element(xs, i):
-    """The x with getD xs i x = x, where there is one."""
-    if i >= xs.n:
-        raise Floundered("any element past the end of a list")
-    return xs.t[xs.at + i]
 
 
 def tail(xs):
@@ -113,13 +103,6 @@ def mod(a, b):
     return a % b if b else a
 
 
-def exact(t, c):
-    """The x with c * x = t, or None."""
-    if c == t == 0:
-        raise Floundered("0 * x = 0")
-    return t // c if c and t % c == 0 else None
-
-
 def exponent(base, v):
     """The k with base ^ k = v, or None."""
     if base < 2:
@@ -135,13 +118,6 @@ def first(found):
     for x in found:
         return x
     raise Floundered("nothing to bound by")
-
-
-def past_ends(holds, lengths):
-    """Where something holds past the ends of lists whatever the number, only the numbers below are searched."""
-    if not holds:
-        raise Floundered("past the lists it does not hold")
-    return max(lengths)
 
 
 def ranked(found, before):
