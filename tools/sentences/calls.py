@@ -34,9 +34,9 @@ CALLS = {
     "dk_record_reason": "DkReasonSays format load text scratch",
     "dk_record_fault": "FaultSays format load text scratch",
 }
-# "some good file begins so": no search finds that file; of many offers no order of the premises is found in time (docs/RUNNING-SENTENCES.md)
-NOT_RUN = ("dk_record_fault", "dk_offers")
-LONG = ("dk_map", "dk_offer")                 # their lists have a fixed length in thousands, so that fewer inputs are drawn
+# "some good file begins so": no search finds that file (docs/RUNNING-SENTENCES.md)
+NOT_RUN = ("dk_record_fault",)
+LONG = ("dk_map", "dk_offer", "dk_offers")  # their lists have a fixed length in hundreds or thousands, so that fewer inputs are drawn
 
 
 def parsed(text):

@@ -287,11 +287,6 @@ class Program:
             g.pred = Pred(g.kind, args, 0, lambda: made)
         return g.pred
 
-    def renamed(self, c):
-        """A clause with variables of its own."""
-        m = {v: self.copy(v) for v in c.vars}
-        return Clause(c.name, [m[v][1] for v in c.vars], [subst(g, m) for g in c.goals], [subst(h, m) for h in c.head])
-
     def find(self, name, given):
         """The declaration of this name that takes so many arguments before its outcome."""
         found = [f.defs[name] for f in self.lib.sentences() if name in f.defs]

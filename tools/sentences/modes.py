@@ -72,8 +72,8 @@ class Modes(Lists):
         return name
 
     def rules(self):
-        return (self.easy, self.call, self.record_apart, self.structured, self.digits, self.dear_call, self.few, self.least, self.ends_of_range, self.endless_count, self.tails,
-                self.by_length, self.by_pieces, self.by_members, self.build_lists, self.by_elements, self.short_list)
+        return (self.easy, self.call, self.record_apart, self.structured, self.digits, self.dear_call, self.few, self.least, self.ends_of_range,
+                self.endless_count, self.tails, self.by_length, self.by_pieces, self.by_members, self.build_lists, self.by_elements, self.short_list)
 
     def easy(self, st):
         for g in st.goals:
@@ -149,25 +149,20 @@ class Modes(Lists):
             return False
         if k in self.modes:
             return self.modes[k] != "busy" or not me or me[0] is not p or self.smaller(at, mask)
-        self.modes[k], mark, plans = "busy", len(self.done), []
+        before, plans, given = dict(self.modes), [], [v for v, m in zip(p.args, mask) if m]
+        self.modes[k] = "busy"
         for c in p.clauses:
-            r = self.planned_clause(p, c, mask)
+            goals = [rel("==", ("var", v), h) for v, h, m in zip(p.args, c.head, mask) if m and h != ("var", v)]
+            needed = [v for h, m in zip(c.head, mask) if not m for v in free(h)]
+            r = self.planned(State(c, goals + c.goals, given, needed, k, p.endless))
             if r is None and self.lenient is not p:
-                for x in self.done[mark:] + [k]:
-                    self.modes.pop(x, None)
-                del self.done[mark:]
+                self.modes = before
                 self.bad[self.relaxed].add(k)
                 return False
-            plans += r or [(c, [("flounder", "True", "%s of %s cannot be run" % (c.name, p.name))], set(c.vars).union(*map(free, c.head)))]
+            r = r or [([("flounder", "True", "%s of %s cannot be run" % (c.name, p.name))], set(c.vars).union(*map(free, c.head)))]
+            plans += [(c, steps, bound) for steps, bound in r]
         self.modes[k] = plans
-        self.done.append(k)
         return True
-
-    def planned_clause(self, p, c, mask):
-        goals = [rel("==", ("var", v), h) for v, h, m in zip(p.args, c.head, mask) if m and h != ("var", v)]
-        needed = [v for h, m in zip(c.head, mask) if not m for v in free(h)]
-        r = self.planned(State(c, goals + c.goals, [v for v, m in zip(p.args, mask) if m], needed, (p, mask), p.endless))
-        return r and [(c, steps, bound) for steps, bound in r]
 
     def smaller(self, at, mask):
         """Whether a call is given a part of what the clause was: of a known argument its predecessor, a summand, the rest of a list."""
@@ -184,7 +179,7 @@ class Modes(Lists):
             elif g.kind == "not" and not g.ways[0][0] and not self.known(g, st.bound):
                 ways = [self.negate([], [x])[1] for x in g.ways[0][1]]
             elif g.kind == "call" and len(g.label.clauses) <= 3 and g.label not in [x.label for c in g.label.clauses for x in c.goals]:
-                ways = [self.unfolded(g, self.renamed(c)) for c in g.label.clauses]
+                ways = [self.unfolded(g, c) for c in g.label.clauses]
             else:
                 continue
             rest, out = [x for x in st.goals if x is not g], []
@@ -198,8 +193,8 @@ class Modes(Lists):
         return None
 
     def unfolded(self, g, c):
-        """A clause's goals in the place of a call."""
-        m = dict(zip(g.label.args, g.parts))
+        """A clause's goals in the place of a call, with variables of its own."""
+        m = dict(zip(g.label.args, g.parts), **{v: self.copy(v) for v in c.vars})
         heads = [subst(h, m) for h in c.head]
         return [rel("==", a, h) for a, h in zip(g.parts, heads) if h != a] + [subst(x, m) for x in c.goals]
 

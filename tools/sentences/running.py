@@ -21,7 +21,7 @@ class Runner(Modes):
         self.reset()
 
     def reset(self, lenient=None):
-        self.modes, self.bad, self.done, self.compiled = {}, {False: set(), True: set()}, [], set()
+        self.modes, self.bad, self.compiled = {}, {False: set(), True: set()}, set()
         self.relaxed, self.lenient, self.testing = True, lenient, False
 
     def function(self, p, mask):
