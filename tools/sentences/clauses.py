@@ -242,8 +242,8 @@ class Program:
             p.captured = len(found)
         return self.preds[key], tuple(("var", v) for v in found) + plain
 
-    def is_record(self, v, of="rec"):
-        return isinstance(self.type_of.get(v), tuple) and self.type_of[v][0] == of
+    def is_record(self, v):
+        return isinstance(self.type_of.get(v), tuple) and self.type_of[v][0] == "rec"
 
     def called(self, e):
         """A sentence that is an argument, in words."""

@@ -155,11 +155,10 @@ class Modes(Lists):
             goals = [rel("==", ("var", v), h) for v, h, m in zip(p.args, c.head, mask) if m and h != ("var", v)]
             needed = [v for h, m in zip(c.head, mask) if not m for v in free(h)]
             r = self.planned(State(c, goals + c.goals, given, needed, k, p.endless))
-            if r is None and self.lenient is not p:
+            if r is None:
                 self.modes = before
                 self.bad[self.relaxed].add(k)
                 return False
-            r = r or [([("flounder", "True", "%s of %s cannot be run" % (c.name, p.name))], set(c.vars).union(*map(free, c.head)))]
             plans += [(c, steps, bound) for steps, bound in r]
         self.modes[k] = plans
         return True
@@ -176,8 +175,6 @@ class Modes(Lists):
         for g in st.goals if st.depth < 2 else ():
             if g.kind == "or":
                 ways = [goals for _, goals in g.ways]
-            elif g.kind == "not" and not g.ways[0][0] and not self.known(g, st.bound):
-                ways = [self.negate([], [x])[1] for x in g.ways[0][1]]
             elif g.kind == "call" and len(g.label.clauses) <= 3 and g.label not in [x.label for c in g.label.clauses for x in c.goals]:
                 ways = [self.unfolded(g, c) for c in g.label.clauses]
             else:
@@ -240,10 +237,6 @@ class Modes(Lists):
         """One of a few values, or a number with a highest."""
         for v in st.unknown():
             t = self.type_of.get(v)
-            if t in ("bool", "unit"):
-                return st.search(v, "(False, True)" if t == "bool" else "((),)")
-            if self.is_record(v, "enum"):
-                return st.search(v, "(%s,)" % ", ".join("(%r,)" % q[0] for q in t[1].parts))
             low, high, met = self.bounds(v, st.goals, st.bound) if t == "nat" else (None, None, ())
             if high:
                 left = [g for g in st.goals if g not in met]

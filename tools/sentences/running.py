@@ -18,11 +18,7 @@ class Runner(Modes):
         super().__init__(crates, texts)
         self.names = dict(vars(values), itertools=itertools, build=self.run_build, NONE=values.Seq())
         self.functions, self.tops, self.topping, self.builds, self.tables, self.why = {}, {}, [], [], {}, {}
-        self.reset()
-
-    def reset(self, lenient=None):
-        self.modes, self.bad, self.compiled = {}, {False: set(), True: set()}, set()
-        self.relaxed, self.lenient, self.testing = True, lenient, False
+        self.modes, self.bad, self.compiled, self.relaxed, self.testing = {}, {False: set(), True: set()}, set(), True, False
 
     def function(self, p, mask):
         return "p%d_%s" % (p.id, "".join("io"[not m] for m in mask))
@@ -115,11 +111,9 @@ class Runner(Modes):
             raise Floundered("%s is no sentence of an outcome" % d.name)
         p, order = goals[0].label, [vs.index(a[1]) for a in goals[0].parts]
         mask = tuple(i != count - 1 for i in order)
-        for lenient in (None, p):
-            self.reset(lenient)
-            if self.ok(p, mask, None):
-                return p, mask, order
-        raise Floundered("%s: no order of its premises finds the outcome" % d.name)
+        if not self.ok(p, mask, None):
+            raise Floundered("%s: no order of its premises finds the outcome" % d.name)
+        return p, mask, order
 
     def clear(self):
         for t in self.tables.values():
