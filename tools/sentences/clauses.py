@@ -3,7 +3,7 @@ records, and ≡ < ≤ between them."""
 import itertools
 
 from .reader import Def, Library
-from .terms import NIL, Clause, Goal, Pred, fn, free, nothing, proj, subst, subterms
+from .terms import NIL, Clause, Goal, Pred, fn, free, frees, nothing, proj, subst, subterms
 from .values import Floundered
 
 ARITY = {"suc": 1, "pos": 1, "negsuc": 1, "natAbs": 1, "length": 1, "getD": 3, "replicate": 2, "take": 2, "drop": 2, "map": 2}
@@ -209,28 +209,15 @@ class Program:
         return [x for xs, _ in each for x in xs], [x for _, out in each for x in out]
 
     # ---- sentences at their arguments
-    def canon(self, e, found, bound):
-        """A name for a term up to the names of its variables; found: its free variables, in order."""
-        k, label = e[:2] if len(e) > 1 else (e[0], "")
-        if k == "clo":
-            vs = ["$%d" % (len(bound) + i) for i in range(len(label[0]))]
-            return "λ%d.%s" % (len(vs), self.canon(self.apply(e, [("var", v) for v in vs]), found, bound + vs))
-        if k == "abbr":
-            return self.canon(e[2][-1], found, bound)
-        if k == "var" and label in bound:
-            return "$%d" % bound.index(label)
-        if k == "var":
-            found += [label] if label not in found else []
-            return "#%d" % found.index(label)
-        bound, label = (bound + [label], "") if k in ("sig", "pi") and label else (bound, id(label) if isinstance(label, Def) else label)
-        return "%s %s(%s)" % (k, label, ",".join(self.canon(y, found, bound) for y in (e[2] if len(e) > 2 else ())))
-
     def pred(self, d, args):
         """The sentence at arguments: those that are sentences themselves are put into a copy of it, and the variables that they use become arguments."""
         params, indices = d.given(), indices_of(d)
         higher = [self.kind(t, d.ctx) in ("fun", "type") for _, t, _ in params]
-        found = []
-        key = d, tuple(self.canon(a, found, []) for h, a in zip(higher, args) if h)
+        given = [a for h, a in zip(higher, args) if h]
+        bound = {t[1] for a in given for t in subterms(a) if t[0] in ("sig", "pi")}
+        found = [v for v in frees(given) if v not in bound]
+        apart = {v: ("var", str(i)) for i, v in enumerate(found)}         # so that it is one copy whatever its variables are called
+        key = d, tuple(subst(a, apart) for a in given)
         plain = tuple(a for h, a in zip(higher + [False] * len(indices), args) if not h)
         if key not in self.preds:
             env = {n: a if h else self.var(n, self.kind(t, d.ctx)) for (n, t, _), h, a in zip(params, higher, args)}
