@@ -2,7 +2,7 @@
 from collections import namedtuple
 
 from .arithmetic import Arithmetic, ident, listed
-from .terms import NIL, Clause, Pred, equations, fn, folded, free, frees, is_fn, nothing, rel, replace, subst, subterms
+from .terms import NIL, Clause, Goal, Pred, equations, fn, folded, free, frees, is_fn, nothing, rel, replace, subst, subterms
 from .values import Open, Seq
 
 # What a goal says of elements. name: a function of `given` that finds their places, then their values; or, with a test ("digit" or "below"), places alone, and
@@ -180,10 +180,11 @@ class Lists(Arithmetic):
         return bool(lists)
 
     def outside(self, st, facts, counts):
-        """What was used of one element is then only looked at where it is said of places past the end."""
-        for f in [f for f in facts if f.goal.fa and f.place and len(f.goal.fa[3]) == 1]:
+        """What was used of all elements at a place is then only looked at where it is said of places past an end."""
+        for f in [f for f in facts if f.goal.fa and f.place and (f.test or f.spoken) and len(f.goal.fa[3]) == 1]:
             if [h.goal for h in facts].count(f.goal) == 1:
-                past, g, (vs, premises, further, conclusion) = rel("<=", counts[f.which[0]], f.place), f.goal, f.goal.fa
+                past = Goal("or", ways=[([], [rel("<=", counts[v], f.place)]) for v in dict.fromkeys(f.which)])
+                g, (vs, premises, further, conclusion) = f.goal, f.goal.fa
                 st.goals[st.goals.index(g)] = nothing(g.ways[0][0], [past] + g.ways[0][1], (vs, [past] + premises, further, conclusion)).noted(g.src, g.via)
 
     def searched_length(self, v, st):
@@ -218,11 +219,12 @@ class Lists(Arithmetic):
         known = st.bound | {c[1] for c in counts.values()}
         given = [v for v in frees(where + goals) if v in known]
         only = goals[0] if len(goals) == 1 and goals[0].kind == "rel" else None
-        others, place, test = [v for v in vs if v not in places + us], next(iter(cells))[2][1] if len(cells) == 1 else None, None
+        others, test = [v for v in vs if v not in places + us], None
+        place = next(iter(cells))[2][1] if len({t[2][1] for t in cells}) == 1 else None
         found = places + us + others
         name = self.helper("fact", given, found, where + goals) if only is None or only.label == "==" else None
         if not name:
-            test, found = self.test_of(only, cells[next(iter(cells))]) if only and place else None, places + others
+            test, found = self.test_of(only, cells[next(iter(cells))]) if only and len(cells) == 1 else None, places + others
             name = test and self.helper("fact", given, found, where)
         if test and name:
             self.define(["def t%s(%s): return %s" % (name, listed(given + found), test[1])])
@@ -254,8 +256,6 @@ class Lists(Arithmetic):
             if any(number is None for each in made for number in each):
                 return
             if left_open and unread:
-                if any(self.impossible(f, env, why) for f in facts):
-                    return
                 raise Open("of an element too little is understood")
             self.why[tuple(made)] = lists, why
             yield tuple(made)
@@ -263,9 +263,12 @@ class Lists(Arithmetic):
                 return
 
     def gather(self, f, env, which, said, below, why):
-        """Puts what a fact says into the cells, {(power, base): digit} each, a value with no base; False where it contradicts what is there."""
+        """Puts what a fact says into the cells, {(power, base): digit} each, a value with no base; False where it contradicts what is there, or where it
+        speaks of a place and finds no value for it."""
         known, test = [env[ident(v)] for v in f.given], f.test and self.names["t" + f.name]
+        places = set()
         for found in self.names[f.name](*known):
+            places.add(found[:f.places])
             told = test and test(*known, *found)
             if f.test == "below":
                 at = which[0], found[0]
@@ -276,12 +279,7 @@ class Lists(Arithmetic):
                 if base and v >= base or said.setdefault((w, i), {}).setdefault((power, base), v) != v:
                     return False
                 why.setdefault((w, i), []).append((f, found, test and power))
-        return True
-
-    def impossible(self, f, env, why):
-        """Whether a fact speaks of a place for which it finds no value."""
-        found = {x[:f.places] for each in why.values() for h, x, _ in each if h is f}
-        return f.spoken and not found.issuperset(self.names[f.spoken](*[env[ident(v)] for v in f.given]))
+        return not f.spoken or places.issuperset(self.names[f.spoken](*known))
 
     def number(self, digits, below, gap):
         """The number that has these digits (None where there is none), and whether some digit of it is left open."""
