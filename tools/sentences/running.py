@@ -57,51 +57,37 @@ class Runner(Modes):
         return self.names[name](*args)
 
     def code(self, p, mask):
-        name, args, calls = self.function(p, mask), [ident(v) for v, m in zip(p.args, mask) if m], []
-        for i, (c, steps, bound) in enumerate(self.modes[p, mask]):
-            lines, depth = self.emit(steps, 1)
+        """The texts of functions for a sentence with these arguments known; a clause is a loop that is left where it is not met."""
+        name, args, once, plans = self.function(p, mask), [ident(v) for v, m in zip(p.args, mask) if m], all(mask), self.modes[p, mask]
+        ranges = [self.ranges(name, args, v, plans[0][1]) for v in args if p.anon and once and len(plans) == 1]
+        if any(ranges):
+            return next(filter(None, ranges))
+        lines, ends = ["def %s(%s):" % (name, ", ".join(args))], [" return False" if once else " yield from ()"]
+        if not p.anon:
+            self.names["T" + name] = self.tables[p, mask] = {}
+            lines += [" k = (%s)" % "".join(a + ", " for a in args), " t = T%s.get(k)" % name, " if t is not None: return t", " T%s[k] = BUSY; t = {}" % name]
+            ends = [" T%s[k] = t" % name, " return t"]
+        for c, steps, bound in plans:
             found = "".join(self.py(h) + ", " for h, m in zip(c.head, mask) if not m)
             numbers = "".join((ident(v) if v in bound else "None") + ", " for v in c.vars)
-            said = "(%s), (%s)" % (found, numbers) if not p.anon else "(%s)" % found
-            calls.append((p.clauses.index(c), "%s_%d(%s)" % (name, i, ", ".join(args))))
-            yield ["def %s_%d(%s):" % (name, i, ", ".join(args))] + lines + [" " * depth + "yield " + said]
-        if p.anon and all(mask) and len(calls) == 1:
-            for v in args:
-                ranges = self.ranges(name, args, v, self.modes[p, mask][0][1])
-                if ranges:
-                    yield from ranges
-                    return
-        yield ["def %s(%s):" % (name, ", ".join(args))] + (self.asked if p.anon else self.tabled)(p, mask, args, calls)
+            told = ["return True" if once else "yield (%s)" % found] if p.anon else ["t.setdefault((%s), (%d, (%s)))" % (found, p.clauses.index(c), numbers)]
+            body, depth = self.emit(steps, 2, "break")
+            lines += [" while True:"] + body + [" " * depth + x.strip() for x in told + (ends if once and not p.anon else [])] + ["  break"]
+        return [lines + ends]
 
     def ranges(self, name, args, v, steps):
         """A search whose only word on a number v is that it is at least something and below something: the ranges are found once, and then looked up."""
         on_v = [s for s in steps if re.search(r"\b%s\b" % v, " ".join(s[1:3]))]
-        low = [s for s in on_v if s[0] == "guard" and s[1].endswith(" <= " + v) and v not in s[1][:-len(v)]]
-        high = [s for s in on_v if s[0] == "guard" and s[1].startswith(v + " < ") and v not in s[1][len(v):]]
+        low = [s[1][:-len(" <= " + v)] for s in on_v if s[0] == "guard" and s[1].endswith(" <= " + v) and v not in s[1][:-len(v)]]
+        high = [s[1][len(v + " < "):] for s in on_v if s[0] == "guard" and s[1].startswith(v + " < ") and v not in s[1][len(v):]]
         if len(on_v) != 2 or len(low) != 1 or len(high) != 1 or not any(s[0] == "for" for s in steps):
             return None
-        given = ", ".join(a for a in args if a != v)
+        given = "".join(a + ", " for a in args if a != v)
         lines, depth = self.emit([s for s in steps if s not in on_v], 1)
-        table = "T" + name
-        self.names[table] = self.tables[name] = {}
-        return [["def %s_all(%s):" % (name, given)] + lines + [" " * depth + "yield %s, %s" % (low[0][1][:-len(" <= " + v)], high[0][1][len(v + " < "):])],
-                ["def %s(%s):" % (name, ", ".join(args)), " t = %s.get((%s,))" % (table, given or "0"),
-                 " if t is None: t = %s[%s,] = Ranges(%s_all(%s))" % (table, given or "0", name, given), " return t.hold(%s)" % v]]
-
-    def asked(self, p, mask, args, calls):
-        if all(mask):
-            return [" for _ in %s: return True" % c for _, c in calls] + [" return False"]
-        return [" yield from " + c for _, c in calls] or [" return ()"]
-
-    def tabled(self, p, mask, args, calls):
-        table = "T" + self.function(p, mask)
-        self.names[table] = self.tables[p, mask] = {}
-        body = []
-        for i, c in calls:
-            body += ["if not t:", " for o, e in %s: t[o] = (%d, e); break" % (c, i)] if all(mask) else \
-                ["for o, e in %s:" % c, " if o not in t: t[o] = (%d, e)" % i]
-        return [" k = (%s)" % "".join(a + ", " for a in args), " t = %s.get(k)" % table, " if t is None:", "  %s[k] = BUSY; t = {}" % table] + \
-            ["  " + line for line in body] + ["  %s[k] = t" % table, " return t"]
+        self.names["T" + name] = self.tables[name] = {}
+        return [["def %s_all(%s):" % (name, given)] + lines + [" " * depth + "yield %s, %s" % (low[0], high[0])],
+                ["def %s(%s):" % (name, ", ".join(args)), " t = T%s.get((%s))" % (name, given),
+                 " if t is None: t = T%s[(%s)] = Ranges(%s_all(%s))" % (name, given, name, given), " return t.hold(%s)" % v]]
 
     def query(self, d, count):
         """(sentence, which of its arguments are known, their order) of a declaration of which all but the last of so many arguments are given."""
