@@ -72,8 +72,8 @@ class Modes(Lists):
         return name
 
     def rules(self):
-        return (self.easy, self.call, self.record_apart, self.structured, self.digits, self.dear_call, self.few, self.least, self.ends_of_range,
-                self.endless_count, self.tails, self.by_length, self.by_pieces, self.by_members, self.build_lists, self.by_elements, self.short_list)
+        return (self.easy, self.call, self.record_apart, self.structured, self.digits, self.multiple, self.dear_call, self.few, self.least,
+                self.ends_of_range, self.endless_count, self.tails, self.by_length, self.by_pieces, self.by_members, self.build_lists, self.by_elements, self.short_list)
 
     def easy(self, st):
         for g in st.goals:
@@ -221,10 +221,14 @@ class Modes(Lists):
             if id(g) not in st.seen and (b[0] == "rec" or is_fn(b, "∷", "[]")) and a[0] == "var" and a[1] not in st.bound and a[1] not in free(b):
                 return st.put(a[1], b, g)
 
+    def differences(self, st):
+        """(constant, {unknown: factor}) of each equation in two unknowns or more."""
+        return [d for d in (self.difference(g, st.bound) for g in st.goals if g.label == "==") if d and len(d[1]) > 1]
+
     def digits(self, st):
         """c + k x + l y + .. ≡ 0, where each but x can only be so large."""
-        for c, factors in filter(None, (self.difference(g, st.bound) for g in st.goals if g.label == "==")):
-            if len(factors) < 2 or not all(isinstance(k, int) and self.type_of.get(v) == "nat" for v, k in factors.items()):
+        for c, factors in self.differences(st):
+            if not all(isinstance(k, int) and self.type_of.get(v) == "nat" for v, k in factors.items()):
                 continue
             x = max(factors, key=lambda v: abs(factors[v]))
             k, tops = factors.pop(x), {v: self.bounds(v, st.goals, st.bound)[1] for v in factors}
@@ -232,6 +236,15 @@ class Modes(Lists):
                 least, most = (" + ".join(["0"] + ["%d * (%s)" % (n, tops[v]) for v, n in factors.items() if n * sign > 0]) for sign in (-1, 1))
                 sums = ("-(%s) - (%s)" % (c, s) for s in (most, least)) if k > 0 else ("(%s) + (%s)" % (c, s) for s in (least, most))
                 return st.search(x, "range(max(0, -((%s) // -%d)), (%s) // %d + 1)" % tuple(y for s in sums for y in (s, abs(k))))
+
+    def multiple(self, st):
+        """c + x + m z ≡ 0 in two unknowns: each x that makes c + x a multiple of m."""
+        for c, factors in [d for d in self.differences(st) if len(d[1]) == 2]:
+            for x, z in (tuple(factors), tuple(factors)[::-1]):
+                if factors[x] in (1, -1) and self.type_of.get(x) == "nat":
+                    low, high, met = self.bounds(x, st.goals, st.bound)
+                    if high or st.endless:
+                        return st.search(x, "multiples(%s, %s, %s, %d, %s)" % (low, high, c, factors[x], factors[z]), met)
 
     def few(self, st):
         """One of a few values, or a number with a highest."""

@@ -114,6 +114,14 @@ def exponent(base, v):
     return k if p == v else None
 
 
+def multiples(low, high, c, sign, m):
+    """Each x from low to high (or on and on) with c + sign * x a multiple of m."""
+    if m == 0:
+        raise Floundered("multiple of 0")
+    start = low + (-c * sign - low) % abs(m)
+    return itertools.count(start, abs(m)) if high is None else range(start, high + 1, abs(m))
+
+
 def first(found):
     for x in found:
         return x
