@@ -2,7 +2,7 @@
 import re
 
 from .clauses import Program
-from .terms import NIL, equations, fn, folded, free, is_fn, proj, rel
+from .terms import NIL, equations, fn, folded, free, is_fn, rel
 
 FORMS = {"-": "max(%s - %s, 0)", "suc": "(%s + 1)", "pos": "%s", "negsuc": "(-1 - %s)", "natAbs": "abs(%s)", "length": "%s.n", "getD": "getD(%s, %s, %s)",
          "take": "cut(%s, %s)[0]", "drop": "cut(%s, %s)[1]", "[]": "NONE", "replicate": "Seq((%s,) * %s)", "++": "Seq(%s.items() + %s.items())",

@@ -2,7 +2,7 @@
 records, and ≡ < ≤ between them."""
 import itertools
 
-from .reader import Def, Library
+from .reader import Library
 from .terms import NIL, Clause, Goal, Pred, fn, free, frees, nothing, proj, subst, subterms
 from .values import Floundered
 

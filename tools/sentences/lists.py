@@ -105,7 +105,7 @@ class Lists(Arithmetic):
         return (found[0], premises) if found and further and v not in frees(premises) else None
 
     def nothing_else(self, v, k, premises, universals):
-        """Whether each element of a list is said to meet the premises by which k stands in it: "i < length l → .. getD l i ..", or of the i that stands at a place."""
+        """Whether each element of a list is said to meet the premises by which k stands in it: "i < length l → .. getD l i ..", or of the i at a place."""
         for vs, said, further, conclusion in (g.fa for g in universals):
             inside = [x.parts[0] for x in said if x.label == "<" and x.parts[1] == length(v)]
             named = {b[1]: ("var", k) for _, a, b in equations(said) if is_fn(a, "getD") and a[2][0] == ("var", v) and a[2][1] in inside and b[0] == "var"}

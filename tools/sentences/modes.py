@@ -72,8 +72,8 @@ class Modes(Lists):
         return name
 
     def rules(self):
-        return (self.easy, self.call, self.record_apart, self.structured, self.digits, self.multiple, self.dear_call, self.few, self.least,
-                self.ends_of_range, self.endless_count, self.tails, self.by_length, self.by_pieces, self.by_members, self.build_lists, self.by_elements, self.short_list)
+        return (self.easy, self.call, self.record_apart, self.structured, self.digits, self.multiple, self.dear_call, self.few, self.least, self.ends_of_range,
+                self.endless_count, self.tails, self.by_length, self.by_pieces, self.by_members, self.build_lists, self.by_elements, self.short_list)
 
     def easy(self, st):
         for g in st.goals:
