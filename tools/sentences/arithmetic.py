@@ -145,7 +145,8 @@ class Arithmetic(Program):
         if a[0] == "rec":
             return steps, [rel("==", x, ("proj", f, (t,))) for f, x in zip(a[1], a[2])], [t[1]]
         if is_fn(a, "^") and self.known(a[2][0], bound):
-            steps = [("let", p, "exponent(%s, %s)" % (self.py(a[2][0]), self.py(b))), ("guard", p + " is not None")]
+            base, powers = self.py(a[2][0]), "[k for k in range(%s.bit_length() + 1) if %s ** k == %s]"
+            steps += [("flounder", base + " < 2", "a power of less than 2"), ("let", p, powers % (p, base, p)), ("guard", p), ("let", p, p + "[0]")]
             return steps, [rel("==", a[2][1], t)], [t[1]]
         if is_fn(a, "∷"):
             h, r = self.fresh("t"), self.fresh("t", "list")

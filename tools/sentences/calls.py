@@ -52,9 +52,9 @@ class Call:
         self.name = name
         sentence, self.inputs = parsed(CALLS[name])
         self.runner = Runner(crates, texts)
-        self.definition = d = self.runner.find(sentence, len(self.inputs))
+        self.definition, self.pred, self.mask, self.order = self.runner.query(sentence, len(self.inputs) + 1)
+        d = self.definition
         self.kinds = [self.runner.kind(t, d.ctx) for t in [t for _, t, _ in d.given()] + [t for _, t in indices_of(d)]]
-        self.pred, self.mask, self.order = self.runner.query(d, len(self.kinds))
         self.function = self.runner.function(self.pred, self.mask)
 
     def given(self, inputs):

@@ -4,7 +4,6 @@ import itertools
 
 from .reader import Library
 from .terms import NIL, Clause, Goal, Pred, fn, free, frees, nothing, proj, subst, subterms
-from .values import Floundered
 
 ARITY = {"suc": 1, "pos": 1, "negsuc": 1, "natAbs": 1, "length": 1, "getD": 3, "replicate": 2, "take": 2, "drop": 2, "map": 2}
 FIXED = {"⊥": ("bot",), "Unit": ("top",), "true": ("lit", True), "false": ("lit", False), "[]": NIL, "zero": ("num", 0)}
@@ -229,9 +228,6 @@ class Program:
             p.captured = len(found)
         return self.preds[key], tuple(("var", v) for v in found) + plain
 
-    def is_record(self, v):
-        return isinstance(self.type_of.get(v), tuple) and self.type_of[v][0] == "rec"
-
     def called(self, e):
         """A sentence that is an argument, in words."""
         if e[0] != "papp":
@@ -273,11 +269,3 @@ class Program:
             made = [Clause(str(i), vs, gs, [("var", v) for v in args], fa=g.fa) for i, (vs, gs) in enumerate(g.ways)]
             g.pred = Pred(g.kind, args, 0, lambda: made)
         return g.pred
-
-    def find(self, name, given):
-        """The declaration of this name that takes so many arguments before its outcome."""
-        found = [f.defs[name] for f in self.lib.sentences() if name in f.defs]
-        found = [d for d in found if len(d.given()) + len(indices_of(d)) == given + 1]
-        if len(found) != 1:
-            raise Floundered("there are %d sentences %s of %d arguments" % (len(found), name, given + 1))
-        return found[0]

@@ -72,8 +72,9 @@ class Modes(Lists):
         return name
 
     def rules(self):
-        return (self.easy, self.call, self.record_apart, self.structured, self.digits, self.multiple, self.dear_call, self.few, self.least, self.ends_of_range,
-                self.endless_count, self.tails, self.by_length, self.by_pieces, self.by_members, self.build_lists, self.by_elements, self.short_list)
+        return (self.easy, self.call, self.record_apart, self.structured, self.digits, self.multiple, lambda st: self.call(st, (1, 2, 3, 99)), self.few,
+                self.least, self.ends_of_range, self.endless_count, self.tails, self.by_length, self.by_pieces, self.by_members, self.build_lists,
+                self.by_elements, self.short_list)
 
     def easy(self, st):
         for g in st.goals:
@@ -96,9 +97,6 @@ class Modes(Lists):
                 r = self.meet(g, st)
                 if r and sum(s[3] for s in r[0] if s[0] == "for") <= most:
                     return st.took(g, *r)
-
-    def dear_call(self, st):
-        return self.call(st, (1, 2, 3, 99))
 
     def cost(self, p, mask):
         """How many numbers are tried with every value that they may have."""
@@ -206,8 +204,9 @@ class Modes(Lists):
         """A record becomes its fields, and what is looked at as a pair a pair."""
         for v in [v for v in st.unknown() if v not in st.seen]:
             fields = []
-            if self.is_record(v):
-                d = self.type_of[v][1]
+            of = self.type_of.get(v)
+            if isinstance(of, tuple) and of[0] == "rec":
+                d = of[1]
                 fields = sorted((p[0], self.kind(p[1], d.ctx)) for p in d.parts)
             elif any(t[0] == "proj" and t[1] in PAIR and t[2][0] == ("var", v) for g in st.goals for t in subterms(g)):
                 fields = [(n, "nat") for n in PAIR]
@@ -271,7 +270,9 @@ class Modes(Lists):
             name = self.helper("least", given, out, premises, True)
             if name:
                 new = {v: self.var(v, "nat") for v in out}
-                st.steps.append(("let", "(%s,)" % listed(x[1] for x in new.values()), "first(%s(%s))" % (name, listed(given))))
+                found = ident(self.fresh("found"))
+                st.steps += [("let", found, "next(%s(%s), None)" % (name, listed(given))), ("flounder", found + " is None", "nothing to bound by"),
+                             ("let", "(%s,)" % listed(x[1] for x in new.values()), found)]
                 st.bound |= {x[1] for x in new.values()}
                 st.goals.append(subst(conclusion[0], new))
                 return True

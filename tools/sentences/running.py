@@ -9,6 +9,7 @@ import threading
 
 from . import values
 from .arithmetic import ident
+from .clauses import indices_of
 from .modes import Modes
 from .values import Floundered
 
@@ -89,17 +90,20 @@ class Runner(Modes):
                 ["def %s(%s):" % (name, ", ".join(args)), " t = T%s.get((%s))" % (name, given),
                  " if t is None: t = T%s[(%s)] = Ranges(%s_all(%s))" % (name, given, name, given), " return t.hold(%s)" % v]]
 
-    def query(self, d, count):
-        """(sentence, which of its arguments are known, their order) of a declaration of which all but the last of so many arguments are given."""
+    def query(self, name, count):
+        """(declaration, sentence, which of its arguments are known, their order) of the declaration of this name that takes so many arguments, the last of
+        which is to be found."""
+        found = [f.defs[name] for f in self.lib.sentences() if name in f.defs]
+        found = [d for d in found if len(d.given()) + len(indices_of(d)) == count]
         vs = [self.fresh("x") for _ in range(count)]
-        goals = self.goals(self.make(d, [("var", v) for v in vs]), [])
+        goals = [g for d in found for g in self.goals(self.make(d, [("var", v) for v in vs]), [])]
         if [g.kind for g in goals] != ["call"]:
-            raise Floundered("%s is no sentence of an outcome" % d.name)
+            raise Floundered("%s is not one sentence of an outcome, with %d arguments" % (name, count))
         p, order = goals[0].label, [vs.index(a[1]) for a in goals[0].parts]
         mask = tuple(i != count - 1 for i in order)
         if not self.ok(p, mask, None):
-            raise Floundered("%s: no order of its premises finds the outcome" % d.name)
-        return p, mask, order
+            raise Floundered("%s: no order of its premises finds the outcome" % name)
+        return found[0], p, mask, order
 
     def clear(self):
         for t in self.tables.values():

@@ -103,29 +103,12 @@ def mod(a, b):
     return a % b if b else a
 
 
-def exponent(base, v):
-    """The k with base ^ k = v, or None."""
-    if base < 2:
-        raise Floundered("power of %d" % base)
-    k, p = 0, 1
-    while p < v:
-        p *= base
-        k += 1
-    return k if p == v else None
-
-
 def multiples(low, high, c, sign, m):
     """Each x from low to high (or on and on) with c + sign * x a multiple of m."""
     if m == 0:
         raise Floundered("multiple of 0")
     start = low + (-c * sign - low) % abs(m)
     return itertools.count(start, abs(m)) if high is None else range(start, high + 1, abs(m))
-
-
-def first(found):
-    for x in found:
-        return x
-    raise Floundered("nothing to bound by")
 
 
 def ranked(found, before):
