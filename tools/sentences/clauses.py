@@ -236,30 +236,24 @@ class Program:
         return " ".join([e[1].name] + [x[1].split("~")[0] if x[0] == "var" else "(%s)" % self.called(x) for x in given])
 
     def clauses(self, d, env, names, indices):
-        head, out = [("var", v) for v in names], []
+        """A clause for each constructor; of a record one, whose fields are variables and premises."""
+        cases = [(n, *arrows(t), comment, line) for n, t, comment, line in d.parts]
         if d.kind == "record":
-            env, vars, goals, parts = dict(env), [], [], []
-            for n, raw, comment, _ in d.parts:
-                t = self.kind(raw, d.ctx)
-                if t and t not in ("fun", "type") and raw[0] not in ("sig", "prod"):
-                    env[n] = self.var(n, t)
-                    vars.append(env[n][1])
-                else:
-                    new = self.goals(self.inst(raw, env, d.ctx), vars)
-                    parts.append((n, comment, len(goals), len(goals) + len(new)))
-                    goals += new
-            return [Clause("record", vars, goals, head, d.comment, d.line, parts)]
-        for n, t, comment, line in d.parts:
-            own, vars, goals = dict(env), [], []
-            before, t = arrows(t)
-            for bound, of, _ in before:
+            values = [n for n, raw, _, _ in d.parts if raw[0] not in ("sig", "prod") and self.kind(raw, d.ctx) not in (None, "fun", "type")]
+            cases = [("record", [((n,) if n in values else None, raw, (n, comment)) for n, raw, comment, _ in d.parts], None, d.comment, d.line)]
+        out = []
+        for name, before, end, comment, line in cases:
+            own, vars, goals, parts = dict(env), [], [], []
+            for bound, of, field in before:
                 for m in bound or ():
                     own[m] = self.var(m, self.kind(of, d.ctx))
                     vars.append(own[m][1])
-                if bound is None:
-                    goals += [g if g.kind == "rel" and g.via else g.noted(of, g.via) for g in self.goals(self.inst(of, own, d.ctx), vars)]
-            ends = t[2][len(t[2]) - indices:] if indices else ()
-            out.append(Clause(n, vars, goals, head + [self.inst(x, own, d.ctx) for x in ends], comment, line))
+                new = [] if bound else self.goals(self.inst(of, own, d.ctx), vars)
+                if field and not bound:
+                    parts.append((*field, len(goals), len(goals) + len(new)))
+                goals += new if field else [g if g.kind == "rel" and g.via else g.noted(of, g.via) for g in new]
+            ends = [self.inst(x, own, d.ctx) for x in end[2][len(end[2]) - indices:]] if indices else []
+            out.append(Clause(name, vars, goals, [("var", v) for v in names] + ends, comment, line, parts))
         return out
 
     def anon(self, g):

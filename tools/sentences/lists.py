@@ -75,11 +75,10 @@ class Lists(Arithmetic):
     def by_members(self, st):
         """A list of which it is said what stands in it, that nothing else does, and that each comes before those behind it."""
         universals = [g for g in st.goals if g.fa]
-        for v in [v for v in st.unknown() if self.type_of.get(v) == "list" and ("members", v) not in st.seen]:
+        for v in [v for v in st.unknown() if self.type_of.get(v) == "list"]:
             before = [b for g in universals for b in [self.order_of(v, g, st)] if b]
             members = [m for g in universals for m in [self.member_of(v, g)] if m]
             if before and members and self.nothing_else(v, *members[0], universals):
-                st.seen.add(("members", v))
                 k, premises = members[0]
                 given = [x for x in frees(premises) if x in st.bound]
                 name = self.helper("member", given, [k], premises)
@@ -157,7 +156,7 @@ class Lists(Arithmetic):
     # ---- all of some lists, from what is said of elements wherever they stand
     def build_lists(self, st):
         sizes = {}
-        for v in [v for v in st.unknown() if self.type_of.get(v) == "list" and ("built", v) not in st.seen]:
+        for v in [v for v in st.unknown() if self.type_of.get(v) == "list"]:
             sizes[v] = self.length_of(v, st) or self.searched_length(v, st)
         counts = {v: self.var("n", "nat") for v in sizes if sizes[v]}
         facts, unread = [], False
@@ -168,7 +167,6 @@ class Lists(Arithmetic):
         lists = [v for v in counts if any(v in f.which and f.test != "below" for f in facts)]
         facts = [f for f in facts if all(v in lists for v in f.which)]
         for v in lists:
-            st.seen.add(("built", v))
             st.let(counts[v][1], sizes[v], 0)
         if lists:
             given = dict.fromkeys(v for f in facts for v in f.given)
