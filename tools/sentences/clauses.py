@@ -7,7 +7,8 @@ from .terms import NIL, Clause, Goal, Pred, fn, free, frees, nothing, proj, subs
 
 ARITY = {"suc": 1, "pos": 1, "negsuc": 1, "natAbs": 1, "length": 1, "getD": 3, "replicate": 2, "take": 2, "drop": 2, "map": 2}
 FIXED = {"⊥": ("bot",), "Unit": ("top",), "true": ("lit", True), "false": ("lit", False), "[]": NIL, "zero": ("num", 0)}
-TYPES = {"ℕ": "nat", "ℤ": "int", "Bool": "bool", "Unit": "unit"}
+TYPES = {"ℕ": "nat", "ℤ": "int", "Bool": "bool", "Unit": "unit", "List": "list", "Type": "type"}
+SHAPES = {"pi": "fun", "arr": "fun", "prod": "pair", "sig": "pair"}
 SIGNS = {"≡": "==", "≤": "<=", "<": "<"}
 OPPOSITE = {"==": "!=", "!=": "==", "<": "<=", "<=": "<"}
 PAIR = ("0", "1")
@@ -15,14 +16,6 @@ PAIR = ("0", "1")
 
 class NotASentence(Exception):
     pass
-
-
-def names_in(raw):
-    if isinstance(raw, tuple):
-        if raw[:1] == ("id",):
-            yield raw[1]
-        for x in raw:
-            yield from names_in(x)
 
 
 def arrows(t):
@@ -41,12 +34,8 @@ def indices_of(d):
 
 def modules_env(d, args):
     """Names of module parameters, and for declarations of the same module what they stand for."""
-    env, args = {}, list(args)
-    for b in d.blocks:
-        for p, _, implicit in b.params:
-            if not implicit:
-                env[p] = env["module", id(b), p] = args.pop(0)
-    return env
+    own = [(id(b), p) for b in d.blocks for p, _, implicit in b.params if not implicit]
+    return {name: a for (b, p), a in zip(own, args) for name in (p, ("module", b, p))}
 
 
 class Program:
@@ -66,13 +55,9 @@ class Program:
 
     def kind(self, raw, ctx):
         """nat int bool list pair unit, ("rec", Def), ("enum", Def), type, fun or None"""
-        k = raw[0] if raw else None
-        if k in ("pi", "arr", "prod", "sig"):
-            return "fun" if k in ("pi", "arr") else "pair"
-        if k == "app":
-            return {"Type": "type", "List": "list"}.get(raw[1][1]) if raw[1][0] == "id" else None
-        if k != "id" or raw[1] in TYPES:
-            return TYPES.get(raw[1]) if k == "id" else None
+        name = raw[1] if raw[0] == "app" else raw
+        if raw[0] != "id" or raw[1] in TYPES:
+            return SHAPES.get(raw[0]) or (TYPES.get(name[1]) if name[0] == "id" else None)
         found, d = self.lib.lookup(ctx[0], raw[1])
         if found != "def" or d.params:
             return None
@@ -90,9 +75,8 @@ class Program:
         if k == "proj":
             return proj(self.inst(r[1], env, ctx), r[2])
         if k == "lam":
-            used = set(names_in(r[2]))
-            names = [n for n in env if isinstance(n, tuple) or n in used]
-            return ("clo", (r[1], r[2], r[3], tuple(names), ctx), tuple(env[n] for n in names))
+            names = [n for n in env if isinstance(n, tuple) or n in r[3]]
+            return ("clo", (r[1], r[2], r[4], tuple(names), ctx), tuple(env[n] for n in names))
         if k in ("pi", "sig"):
             vs = [self.fresh(n, self.kind(r[2], ctx)) for n in r[1]]
             body = self.inst(r[3], dict(env, **{n: ("var", v) for n, v in zip(r[1], vs)}), ctx)

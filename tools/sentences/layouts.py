@@ -1,7 +1,7 @@
 """A layout file by its sentences, for tools/why and tools/verdict: the call, what is lent to it, and the names of its nodes."""
 from pathlib import Path
 
-from .calls import CALLS, Call, parsed
+from .calls import Call
 from .values import Rec
 
 MOST_BYTES, MOST_SPANS = 16384, 4096          # what the program `layout` lends (document 01)
@@ -41,11 +41,7 @@ class Layout:
 
     def tables(self):
         """The record of the tables that the file says, if the sentences came to it."""
-        fields = parsed(CALLS["dk_build"])[1][0][1]
-        for made in Rec.known.values():
-            if len(made.d) == len(fields) and "kinds" in made.d:
-                return made
-        return None
+        return next((made for made in Rec.known.values() if made.d.keys() >= {"kinds", "operands", "numbers", "states", "rows"}), None)
 
     def node(self, i):
         """What the file says of a node, in words."""

@@ -46,31 +46,25 @@ class Lists(Arithmetic):
     def by_pieces(self, st):
         """A known list begins with what a definition by cases makes of each element of an unknown one."""
         for g, a, b in equations(st.goals):
-            if not (is_fn(a, "++") and a[2][0][0] == "ufn" and self.known(b, st.bound)):
+            if not (is_fn(a, "++") and a[2][0][0] == "ufn" and len(a[2][0][1].eqs) == 2 and self.known(b, st.bound)):
                 continue
             *args, of = a[2][0][2]
-            piece = self.piece_of(a[2][0][1], args) if all(self.known(x, st.bound) for x in args) else None
-            if piece:
-                x, rest, text, front, r = (self.var(n, "list") for n in ("x", "rest", "text", "l", "r"))
-                given = list(frees(args))
-                goal = rel("==", text, fn("++", (subst(piece[1], {piece[0]: x}), rest)))
-                p = self.helper("piece", given + [text[1]], [x[1], rest[1]], [goal])
-                if p:
-                    known = "".join(ident(v) + ", " for v in given)
-                    steps = [("for", "(%s)" % listed((front[1], r[1])), "pieces(%s, (%s), %s)" % (p, known, self.py(b)), 0)]
-                    return st.took(g, steps, [rel("==", of, front), rel("==", a[2][1], r)], [front[1], r[1]])
+            x, rest, text, front = (self.var(n, "list") for n in ("x", "rest", "text", "front"))
+            given, piece = list(frees(args)), self.piece_of(a[2][0][1], args, x)
+            name = piece and self.helper("piece", given + [text[1]], [x[1], rest[1]], [rel("==", text, fn("++", (piece, rest)))])
+            if name and all(v in st.bound for v in given):
+                known = "".join(ident(v) + ", " for v in given)
+                steps = [("for", "(%s)" % listed((front[1], rest[1])), "pieces(%s, (%s), %s)" % (name, known, self.py(b)), 0)]
+                return st.took(g, steps, [rel("==", of, front), rel("==", a[2][1], rest)], [front[1], rest[1]])
 
-    def piece_of(self, d, args):
-        """Of `f .. [] = []` and `f .. (x ∷ l) = g .. x ++ f .. l`: x, and g .. x."""
-        if len(d.eqs) != 2 or d.eqs[0][1] != ("id", "[]"):
+    def piece_of(self, d, args, x):
+        """Of `f .. [] = []` and `f .. (y ∷ l) = g .. y ++ f .. l`: g .. x."""
+        env, (_, nothing_left), (patterns, body) = {}, *d.eqs
+        *front, last = [self.pattern(p, env, d.ctx) for p in patterns]
+        body, rest = self.inst(body, env, d.ctx), ("ufn", d, (*front, last[2][1])) if is_fn(last, "∷") else None
+        if nothing_left != ("id", "[]") or rest not in subterms(body):
             return None
-        env = {}
-        *patterns, last = [self.pattern(p, env, d.ctx) for p in d.eqs[1][0]]
-        body = self.inst(d.eqs[1][1], env, d.ctx)
-        tail = ("ufn", d, tuple(patterns) + (last[2][1],)) if is_fn(last, "∷") else None
-        if tail is None or tail not in subterms(body):
-            return None
-        return last[2][0][1], subst(replace(body, tail, NIL), {p[1]: a for p, a in zip(patterns, args) if p[0] == "var"})
+        return subst(replace(body, rest, NIL), {p[1]: a for p, a in zip((*front, last[2][0]), (*args, x)) if p[0] == "var"})
 
     def by_members(self, st):
         """A list of which it is said what stands in it, that nothing else does, and that each comes before those behind it."""

@@ -1,7 +1,7 @@
 """Reads sentence files: declarations (data, record, abbrev, unfoldable) with the comment above each. Statements of theorems and their proofs are passed over.
 
-A term is a tuple: id num app proj lam pi arr sig prod sum op rec tuple; the last part of lam pi arr sig prod sum and op is its text. It is not the kit's
-reader: precedences are those that the files use, and what does not fit them is refused."""
+A term is a tuple: id num app proj lam pi arr sig prod sum op rec tuple; the last part of lam pi arr sig prod sum and op is its text, and before that of lam
+stand its words. It is not the kit's reader: precedences are those that the files use, and what does not fit them is refused."""
 import re
 from pathlib import Path
 
@@ -98,8 +98,8 @@ class Parser:
         while not self.skip("."):
             b = self.binder()
             params += [(n, b[1]) for n in b[0]] if b else [(self.next(), None)]
-        start = self.i
-        return ("lam", tuple(params), self.expr(), self.since(start))
+        start, body = self.i, self.expr()
+        return ("lam", tuple(params), body, frozenset(self.t[start:self.i]), self.since(start))
 
     def app(self):
         f, args = self.post(), []
