@@ -1,8 +1,8 @@
 """Numbers: terms as Python, equations solved for what is not known, and how large a number can be."""
 import re
 
-from .clauses import Program, modules_env
-from .terms import NIL, Clause, equations, fn, folded, free, is_fn, proj, rel
+from .clauses import Program
+from .terms import NIL, equations, fn, folded, free, is_fn, rel
 
 FORMS = {"-": "max(%s - %s, 0)", "suc": "(%s + 1)", "pos": "%s", "negsuc": "(-1 - %s)", "natAbs": "abs(%s)", "length": "%s.n", "getD": "getD(%s, %s, %s)",
          "take": "cut(%s, %s)[0]", "drop": "cut(%s, %s)[1]", "[]": "NONE", "replicate": "Seq((%s,) * %s)", "++": "Seq(%s.items() + %s.items())",
@@ -77,22 +77,6 @@ class Arithmetic(Program):
             return "(%s %s %s)" % (args[0], "//" if op == "/" else "%", args[1])
         return FORMS[op] % tuple(args[::-1] if op in ("take", "drop", "replicate") else args)
 
-    def cases(self, d):
-        """A definition by cases, as a Python function."""
-        if d in self.functions:
-            return self.functions[d]
-        self.functions[d] = name = "u%d" % len(self.functions)
-        n = len(d.of_modules)
-        args = [self.fresh("a") for _ in range(n + len(d.eqs[0][0]))]
-        lines = ["def %s(%s):" % (name, listed(args))]
-        for patterns, body in d.eqs:
-            env = modules_env(d, [("var", v) for v in args[:n]])
-            goals = [rel("==", ("var", v), self.pattern(p, env, d.ctx)) for v, p in zip(args[n:], patterns)]
-            (steps, _), = self.plan(Clause("", [], goals, []), set(args), [])
-            lines += [" while True:"] + self.emit(steps, 2, "break")[0] + ["  return " + self.py(self.inst(body, env, d.ctx))]
-        self.define(lines)
-        return name
-
     def pattern(self, p, env, ctx):
         if p[0] == "id" and p[1] not in ("[]", "zero") and self.lib.lookup(ctx[0], p[1])[0] != "con":
             env[p[1]] = self.var(p[1])
@@ -132,10 +116,9 @@ class Arithmetic(Program):
             if a[0] == "var" and known:
                 return [("let", ident(a[1]), self.py(b))], [], [a[1]]
             if is_fn(a, "getD") and a[2][2] == b and not known and self.known(a[2][0], bound) and self.known(a[2][1], bound):
-                t = self.fresh("t")
-                return [("let", ident(t), "element(%s, %s)" % (self.py(a[2][0]), self.py(a[2][1])))], [rel("==", b, ("var", t))], [t]
-            if a[0] == b[0] == "rec":
-                return [], [rel("==", x, proj(b, f)) for f, x in zip(a[1], a[2])], []
+                t, (xs, i) = self.var("t"), map(self.py, a[2][:2])
+                steps = [("flounder", "%s >= %s.n" % (i, xs), "any element past the end of a list"), ("let", ident(t[1]), "getD(%s, %s, None)" % (xs, i))]
+                return steps, [rel("==", b, t)], [t[1]]
             if b == ("num", 0) and not self.known(a, bound):         # numbers that add up to 0 are 0
                 if is_fn(a, "+"):
                     return [], [rel("==", x, b) for x in a[2]], []
@@ -150,7 +133,8 @@ class Arithmetic(Program):
             (v, k), = d[1].items()
             p = ident(v)
             steps = [("let", p, "-(%s)" % d[0])] if k == 1 else [("let", p, d[0])] if k == -1 else \
-                [("let", p, "exact(-(%s), %s)" % (d[0], k)), ("guard", p + " is not None")]
+                [("let", p, "-(%s)" % d[0]), ("flounder", "%s == (%s) == 0" % (p, k), "0 * x = 0"), ("guard", "mod(%s, %s) == 0" % (p, k)),
+                 ("let", p, "%s // (%s)" % (p, k))]
             return steps + ([] if self.type_of.get(v) == "int" else [("guard", p + " >= 0")]), [], [v]
         return None
 
@@ -158,11 +142,11 @@ class Arithmetic(Program):
         """A known value b taken apart as the term a has it."""
         t = self.var("t")
         p, steps = ident(t[1]), [("let", ident(t[1]), self.py(b))]
-        if a[0] in ("rec", "con"):
-            names, test = (a[1], []) if a[0] == "rec" else (map(str, range(1, len(a[2]) + 1)), [("guard", "%s[0] == %r" % (p, a[1]))])
-            return steps + test, [rel("==", x, ("proj", f, (t,))) for f, x in zip(names, a[2])], [t[1]]
+        if a[0] == "rec":
+            return steps, [rel("==", x, ("proj", f, (t,))) for f, x in zip(a[1], a[2])], [t[1]]
         if is_fn(a, "^") and self.known(a[2][0], bound):
-            steps = [("let", p, "exponent(%s, %s)" % (self.py(a[2][0]), self.py(b))), ("guard", p + " is not None")]
+            base, powers = self.py(a[2][0]), "[k for k in range(%s.bit_length() + 1) if %s ** k == %s]"
+            steps += [("flounder", base + " < 2", "a power of less than 2"), ("let", p, powers % (p, base, p)), ("guard", p), ("let", p, p + "[0]")]
             return steps, [rel("==", a[2][1], t)], [t[1]]
         if is_fn(a, "∷"):
             h, r = self.fresh("t"), self.fresh("t", "list")
@@ -215,8 +199,6 @@ class Arithmetic(Program):
         for _ in range(4):
             old, new = self.tops[p], [self.tops_of(c) for c in p.clauses]
             self.tops[p] = [None if None in column else max(column) for column in zip(*new)] if new else old
-            if self.tops[p] == old:
-                break
         self.topping.pop()
         self.tops[p] = [t if t == o else None for t, o in zip(self.tops[p], old)]
         return self.tops[p]
@@ -239,8 +221,6 @@ class Arithmetic(Program):
         if e[1] in ("∷", "++", "[]"):
             parts = [self.top(x, tops) for part in elements(e) for x in part]
             return None if None in parts else max(parts, default=-1)
-        if e[1] == "%":
-            return e[2][1][1] - 1 if e[2][1][0] == "num" and e[2][1][1] else None
         x, *more = [self.top(x, tops) for x in e[2]] if e[1] in ("+", "*", "suc", "pos", "-", "/") else [None]
         if x is None or None in more and e[1] in ("+", "*"):
             return None

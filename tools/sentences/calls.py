@@ -6,7 +6,7 @@ import re
 
 from .clauses import indices_of
 from .running import Runner
-from .values import Rec, Seq, rec, value
+from .values import Rec, Seq, value
 
 TABLES = "(units starts bank_sizes bank_offsets aligns flags fill_bits kinds operands numbers states rows values %s fill %s)"
 LENT = "(image addresses offsets sizes)"
@@ -34,9 +34,9 @@ CALLS = {
     "dk_record_reason": "DkReasonSays format load text scratch",
     "dk_record_fault": "FaultSays format load text scratch",
 }
-# "some good file begins so": no search finds that file; of many offers no order of the premises is found in time (docs/RUNNING-SENTENCES.md)
-NOT_RUN = ("dk_record_fault", "dk_offers")
-LONG = ("dk_map", "dk_offer")                 # their lists have a fixed length in thousands, so that fewer inputs are drawn
+# "some good file begins so": no search finds that file (docs/RUNNING-SENTENCES.md)
+NOT_RUN = ("dk_record_fault",)
+LONG = ("dk_map", "dk_offer", "dk_offers")  # their lists have a fixed length in hundreds or thousands, so that fewer inputs are drawn
 
 
 def parsed(text):
@@ -52,24 +52,24 @@ class Call:
         self.name = name
         sentence, self.inputs = parsed(CALLS[name])
         self.runner = Runner(crates, texts)
-        self.definition = d = self.runner.find(sentence, len(self.inputs))
+        self.definition, self.pred, self.mask, self.order = self.runner.query(sentence, len(self.inputs) + 1)
+        d = self.definition
         self.kinds = [self.runner.kind(t, d.ctx) for t in [t for _, t, _ in d.given()] + [t for _, t in indices_of(d)]]
-        self.pred, self.mask, self.order = self.runner.query(d, len(self.kinds))
         self.function = self.runner.function(self.pred, self.mask)
 
     def given(self, inputs):
         """The sentence's arguments from the call's inputs, by their names."""
         def one(word):
-            return value(inputs[word]) if word in inputs else int(word)
+            return inputs[word] if word in inputs else int(word)
         out = []
         for (bracket, words), kind in zip(self.inputs, self.kinds):
             if bracket:
                 names = words if bracket == "{" else [p[0] for p in kind[1].parts]
                 if len(names) != len(words):
                     raise ValueError("%s: %d fields are named and %d are declared" % (self.name, len(words), len(names)))
-                out.append(rec(dict(zip(names, map(one, words)))))
+                out.append(value(dict(zip(names, map(one, words)))))
             else:
-                out.append((kind[1].parts[int(words[1:])][0],) if words[0] == "#" else one(words))
+                out.append((kind[1].parts[int(words[1:])][0],) if words[0] == "#" else value(one(words)))
         return tuple(out)
 
     def outcomes(self, inputs):

@@ -2,13 +2,13 @@
 records, and ≡ < ≤ between them."""
 import itertools
 
-from .reader import Def, Library
-from .terms import BOUND, NIL, Clause, Goal, Pred, fn, free, nothing, proj, subst, subterms
-from .values import Floundered
+from .reader import Library
+from .terms import NIL, Clause, Goal, Pred, fn, free, frees, nothing, proj, subst, subterms
 
 ARITY = {"suc": 1, "pos": 1, "negsuc": 1, "natAbs": 1, "length": 1, "getD": 3, "replicate": 2, "take": 2, "drop": 2, "map": 2}
 FIXED = {"⊥": ("bot",), "Unit": ("top",), "true": ("lit", True), "false": ("lit", False), "[]": NIL, "zero": ("num", 0)}
-TYPES = {"ℕ": "nat", "ℤ": "int", "Bool": "bool", "Unit": "unit"}
+TYPES = {"ℕ": "nat", "ℤ": "int", "Bool": "bool", "Unit": "unit", "List": "list", "Type": "type"}
+SHAPES = {"pi": "fun", "arr": "fun", "prod": "pair", "sig": "pair"}
 SIGNS = {"≡": "==", "≤": "<=", "<": "<"}
 OPPOSITE = {"==": "!=", "!=": "==", "<": "<=", "<=": "<"}
 PAIR = ("0", "1")
@@ -16,14 +16,6 @@ PAIR = ("0", "1")
 
 class NotASentence(Exception):
     pass
-
-
-def names_in(raw):
-    if isinstance(raw, tuple):
-        if raw[:1] == ("id",):
-            yield raw[1]
-        for x in raw:
-            yield from names_in(x)
 
 
 def arrows(t):
@@ -40,19 +32,10 @@ def indices_of(d):
     return [(n, of) for names, of, implicit in arrows(d.sig)[0] if not implicit for n in names or ("y",)]
 
 
-def is_family(d):
-    t = arrows(d.sig)[1]
-    return t[0] == "app" and t[1] == ("id", "Type")
-
-
 def modules_env(d, args):
     """Names of module parameters, and for declarations of the same module what they stand for."""
-    env, args = {}, list(args)
-    for b in d.blocks:
-        for p, _, implicit in b.params:
-            if not implicit:
-                env[p] = env["module", id(b), p] = args.pop(0)
-    return env
+    own = [(id(b), p) for b in d.blocks for p, _, implicit in b.params if not implicit]
+    return {name: a for (b, p), a in zip(own, args) for name in (p, ("module", b, p))}
 
 
 class Program:
@@ -72,13 +55,9 @@ class Program:
 
     def kind(self, raw, ctx):
         """nat int bool list pair unit, ("rec", Def), ("enum", Def), type, fun or None"""
-        k = raw[0] if raw else None
-        if k in ("pi", "arr", "prod", "sig"):
-            return "fun" if k in ("pi", "arr") else "pair"
-        if k == "app":
-            return {"Type": "type", "List": "list"}.get(raw[1][1]) if raw[1][0] == "id" else None
-        if k != "id" or raw[1] in TYPES:
-            return TYPES.get(raw[1]) if k == "id" else None
+        name = raw[1] if raw[0] == "app" else raw
+        if raw[0] != "id" or raw[1] in TYPES:
+            return SHAPES.get(raw[0]) or (TYPES.get(name[1]) if name[0] == "id" else None)
         found, d = self.lib.lookup(ctx[0], raw[1])
         if found != "def" or d.params:
             return None
@@ -96,9 +75,8 @@ class Program:
         if k == "proj":
             return proj(self.inst(r[1], env, ctx), r[2])
         if k == "lam":
-            used = set(names_in(r[2]))
-            names = [n for n in env if isinstance(n, tuple) or n in used]
-            return ("clo", (r[1], r[2], r[3], tuple(names), ctx), tuple(env[n] for n in names))
+            names = [n for n in env if isinstance(n, tuple) or n in r[3]]
+            return ("clo", (r[1], r[2], r[4], tuple(names), ctx), tuple(env[n] for n in names))
         if k in ("pi", "sig"):
             vs = [self.fresh(n, self.kind(r[2], ctx)) for n in r[1]]
             body = self.inst(r[3], dict(env, **{n: ("var", v) for n, v in zip(r[1], vs)}), ctx)
@@ -126,24 +104,18 @@ class Program:
             return self.make(d, [env["module", id(b), p] for b in d.blocks if b in ctx[1] for p, _, implicit in b.params if not implicit])
         if found == "con" or n in ARITY:
             return ("con" if found == "con" else "bif", n, ())
-        if n in TYPES or n in ("List", "Type"):
-            return ("ty", n)
         raise NotASentence("%s is not known in %s" % (n, ctx[0].path.name))
 
     def apply(self, e, args):
         k, args = e[0], tuple(args)
-        if not args or k in ("ty", "top"):
+        if not args:
             return e
-        if k == "clo":
-            (params, body, text, names, ctx), env = e[1], dict(zip(e[1][3], e[2]))
-            env.update((n, a) for (n, _), a in zip(params, args))
-            if len(args) < len(params):
-                return ("clo", (params[len(args):], body, text, tuple(env), ctx), tuple(env.values()))
+        if k == "clo" and len(args) >= len(e[1][0]):
+            params, body, _, names, ctx = e[1]
+            env = dict(zip(names, e[2]), **{n: a for (n, _), a in zip(params, args)})
             return self.apply(self.inst(body, env, ctx), args[len(params):])
         if k == "papp":
             return self.make(e[1], e[2] + args)
-        if k == "con":
-            return ("con", e[1], e[2] + args)
         if k == "bif":
             args = e[2] + args
             return fn(e[1], args) if len(args) == ARITY[e[1]] else ("bif", e[1], args)
@@ -166,7 +138,7 @@ class Program:
             return self.apply(("ufn", d, args[:n]), args[n:])
         env = dict(modules_env(d, args[:before]), **{p[1]: a for p, a in zip(patterns, args[before:])})
         e = self.inst(d.eqs[0][1], env, d.ctx)
-        return self.apply(("abbr", d, args[before:n] + (e,)) if is_family(d) else e, args[n:])
+        return self.apply(("abbr", d, args[before:n] + (e,)) if arrows(d.sig)[1][:2] == ("app", ("id", "Type")) else e, args[n:])
 
     # ---- terms to goals
     def goals(self, e, vars, via=()):
@@ -182,8 +154,7 @@ class Program:
         if k == "sig":
             return self.goals(self.opened(e, vars), vars, via)
         if k == "sum":
-            ways = [([], x) for x in parts]
-            return [Goal("or", ways=[(vs, self.goals(x, vs)) for vs, x in ways], src=e[3], via=via)]
+            return [Goal("or", ways=[(vs, self.goals(x, vs)) for x in parts for vs in [[]]], src=e[3], via=via)]
         if k == "pi":
             return [self.universal(e).noted(e[3], via)]
         if k == "call":
@@ -221,43 +192,25 @@ class Program:
         return [x for xs, _ in each for x in xs], [x for _, out in each for x in out]
 
     # ---- sentences at their arguments
-    def canon(self, e, found, bound):
-        """A name for a term up to the names of its variables; found: its free variables, in order."""
-        k, label = e[:2] if len(e) > 1 else (e[0], "")
-        if k == "clo":
-            vs = ["$%d" % (len(bound) + i) for i in range(len(label[0]))]
-            return "λ%d.%s" % (len(vs), self.canon(self.apply(e, [("var", v) for v in vs]), found, bound + vs))
-        if k == "abbr":
-            return self.canon(e[2][-1], found, bound)
-        if k == "var" and label in bound:
-            return "$%d" % bound.index(label)
-        if k == "var":
-            found += [label] if label not in found else []
-            return "#%d" % found.index(label)
-        bound, label = (bound + [label], "") if k in BOUND and label else (bound, id(label) if isinstance(label, Def) else label)
-        return "%s %s(%s)" % (k, label, ",".join(self.canon(y, found, bound) for y in (e[2] if len(e) > 2 else ())))
-
     def pred(self, d, args):
         """The sentence at arguments: those that are sentences themselves are put into a copy of it, and the variables that they use become arguments."""
         params, indices = d.given(), indices_of(d)
         higher = [self.kind(t, d.ctx) in ("fun", "type") for _, t, _ in params]
-        found = []
-        key = d, tuple(self.canon(a, found, []) for h, a in zip(higher, args) if h)
+        given = [a for h, a in zip(higher, args) if h]
+        bound = {t[1] for a in given for t in subterms(a) if t[0] in ("sig", "pi")}
+        found = [v for v in frees(given) if v not in bound]
+        apart = {v: ("var", str(i)) for i, v in enumerate(found)}         # so that it is one copy whatever its variables are called
+        key = d, tuple(subst(a, apart) for a in given)
         plain = tuple(a for h, a in zip(higher + [False] * len(indices), args) if not h)
         if key not in self.preds:
             env = {n: a if h else self.var(n, self.kind(t, d.ctx)) for (n, t, _), h, a in zip(params, higher, args)}
             names = found + [env[n][1] for (n, _, _), h in zip(params, higher) if not h]
             env.update(modules_env(d, [env[p[0]] for p in d.of_modules]))
             own = [self.fresh(n, self.kind(t, d.ctx)) for n, t in indices]
-            anything = [n for n, _, implicit in d.params if implicit]   # what is of any type, or a record, is taken apart where it is given
-            big = [self.is_record(v) or t[0] == "id" and t[1] in anything for v, (_, t) in zip(own, indices)]
-            p = self.preds[key] = Pred(d.name, names + own, len(own), lambda: self.clauses(d, env, names, len(own)), d, big)
+            p = self.preds[key] = Pred(d.name, names + own, len(own), lambda: self.clauses(d, env, names, len(own)), d)
             p.label = d.name + "".join(" (%s)" % self.called(a) for h, a in zip(higher, args) if h)
             p.captured = len(found)
         return self.preds[key], tuple(("var", v) for v in found) + plain
-
-    def is_record(self, v, of="rec"):
-        return isinstance(self.type_of.get(v), tuple) and self.type_of[v][0] == of
 
     def called(self, e):
         """A sentence that is an argument, in words."""
@@ -267,59 +220,30 @@ class Program:
         return " ".join([e[1].name] + [x[1].split("~")[0] if x[0] == "var" else "(%s)" % self.called(x) for x in given])
 
     def clauses(self, d, env, names, indices):
-        head, out = [("var", v) for v in names], []
+        """A clause for each constructor; of a record one, whose fields are variables and premises."""
+        cases = [(n, *arrows(t), comment, line) for n, t, comment, line in d.parts]
         if d.kind == "record":
-            env, vars, goals, parts = dict(env), [], [], []
-            for n, raw, comment, _ in d.parts:
-                t = self.kind(raw, d.ctx)
-                if t and t not in ("fun", "type") and raw[0] not in ("sig", "prod"):
-                    env[n] = self.var(n, t)
-                    vars.append(env[n][1])
-                else:
-                    new = self.goals(self.inst(raw, env, d.ctx), vars)
-                    parts.append((n, comment, len(goals), len(goals) + len(new)))
-                    goals += new
-            return [self.paired(Clause("record", vars, goals, head, d.comment, d.line, parts))]
-        for n, t, comment, line in d.parts:
-            own, vars, goals = dict(env), [], []
-            before, t = arrows(t)
-            for bound, of, _ in before:
+            values = [n for n, raw, _, _ in d.parts if raw[0] not in ("sig", "prod") and self.kind(raw, d.ctx) not in (None, "fun", "type")]
+            cases = [("record", [((n,) if n in values else None, raw, (n, comment)) for n, raw, comment, _ in d.parts], None, d.comment, d.line)]
+        out = []
+        for name, before, end, comment, line in cases:
+            own, vars, goals, parts = dict(env), [], [], []
+            for bound, of, field in before:
                 for m in bound or ():
                     own[m] = self.var(m, self.kind(of, d.ctx))
                     vars.append(own[m][1])
-                if bound is None:
-                    goals += [g if g.kind == "rel" and g.via else g.noted(of, g.via) for g in self.goals(self.inst(of, own, d.ctx), vars)]
-            ends = t[2][len(t[2]) - indices:] if indices else ()
-            out.append(self.paired(Clause(n, vars, goals, head + [self.inst(x, own, d.ctx) for x in ends], comment, line)))
+                new = [] if bound else self.goals(self.inst(of, own, d.ctx), vars)
+                if field and not bound:
+                    parts.append((*field, len(goals), len(goals) + len(new)))
+                goals += new if field else [g if g.kind == "rel" and g.via else g.noted(of, g.via) for g in new]
+            ends = [self.inst(x, own, d.ctx) for x in end[2][len(end[2]) - indices:]] if indices else []
+            out.append(Clause(name, vars, goals, [("var", v) for v in names] + ends, comment, line, parts))
         return out
-
-    def paired(self, c):
-        """A variable that is only looked at as a pair becomes two."""
-        for v in [v for v in c.vars if self.type_of.get(v) not in ("nat", "list", "int", "bool")]:
-            if any(t[0] == "proj" and t[2][0] == ("var", v) and t[1] in PAIR for x in c.goals + c.head for t in subterms(x)):
-                pair = tuple(self.var(v.split("~")[0] + i, "nat") for i in PAIR)
-                m = {v: ("rec", PAIR, pair)}
-                c.vars = [x for x in c.vars if x != v] + [x[1] for x in pair]
-                c.goals, c.head = [subst(g, m) for g in c.goals], [subst(h, m) for h in c.head]
-        return c
 
     def anon(self, g):
         """The sentence of a choice or a search, over its free variables."""
         if g.pred is None:
             args = list(free(g))
-            made = [self.paired(Clause(str(i), vs, gs, [("var", v) for v in args], fa=g.fa)) for i, (vs, gs) in enumerate(g.ways)]
+            made = [Clause(str(i), vs, gs, [("var", v) for v in args], fa=g.fa) for i, (vs, gs) in enumerate(g.ways)]
             g.pred = Pred(g.kind, args, 0, lambda: made)
         return g.pred
-
-    def renamed(self, c):
-        """A clause with variables of its own."""
-        m = {v: self.copy(v) for v in c.vars}
-        return Clause(c.name, [m[v][1] for v in c.vars], [subst(g, m) for g in c.goals], [subst(h, m) for h in c.head])
-
-    def find(self, name, given):
-        """The declaration of this name that takes so many arguments before its outcome."""
-        found = [f.defs[name] for f in self.lib.sentences() if name in f.defs]
-        found = [d for d in found if len(d.given()) + len(indices_of(d)) == given + 1]
-        if len(found) != 1:
-            raise Floundered("there are %d sentences %s of %d arguments" % (len(found), name, given + 1))
-        return found[0]

@@ -35,10 +35,6 @@ def letter(v):
     return v.split("~")[0]
 
 
-def joined(*words):
-    return " ".join(filter(None, words))
-
-
 class Why:
     """named: what is said beside a number of a variable, or nothing; depth: how many premises deep the reason goes where the outcome is decided."""
     def __init__(self, runner, depth=2, named=lambda variable, number: ""):
@@ -103,7 +99,7 @@ class Why:
         if not text or key in self.told:
             return ""
         self.told.add(key)
-        return text.strip("- ")
+        return text.strip("- ") + " "
 
     def call(self, p, args, depth, outcome=None):
         """The node of a sentence at its arguments."""
@@ -120,7 +116,7 @@ class Why:
         node = Node("  ".join([head + by + where] + self.numbers_of(x for x in numbers if x not in given)))
         if depth > 0:
             self.numbers += numbers
-            node.words = joined(self.words_of((p.of, ""), p.of.comment), self.words_of((p.of, c.name), "" if c.name == "record" else c.comment))
+            node.words = (self.words_of((p.of, ""), p.of.comment) + self.words_of((p.of, c.name), "" if c.name == "record" else c.comment)).strip()
             if (p.id, args) in self.seen and outcome is None:
                 node.text += "  (as above)"
                 return node
@@ -142,10 +138,10 @@ class Why:
 
     def premise(self, g, env, depth):
         args, text, below = tuple(self.value(a, env) for a in g.parts), self.goal(g, env), ()
-        words = [self.words_of((d, "abbrev"), d.comment and "%s: %s" % (d.name, d.comment)) for d in g.via if depth > 0]
+        words = "".join(self.words_of((d, "abbrev"), d.comment and "%s: %s" % (d.name, d.comment)) for d in g.via if depth > 0)
         if g.kind == "call" and None not in args:
             node = self.call(g.label, args, depth)
-            node.words = joined(*words, node.words)
+            node.words = (words + node.words).strip()
             return [node]
         if false(g) or g.kind == "rel" and any(isinstance(v, (Rec, Seq)) and not small(v) for v in args):
             return []
@@ -157,7 +153,7 @@ class Why:
             below = [Node(t) for t in self.searched(g, env)]
         elif source.replace(" ", "") not in ("", text.replace(" ", "")):
             text = "%s:  %s" % (source, text)
-        return [Node(text, joined(*words), below)]
+        return [Node(text, words.strip(), below)]
 
     def met(self, goals, env):
         tests = [self.runner.pure(x, set(env)) for x in goals]
@@ -191,9 +187,10 @@ class Why:
     def part_of(self, goal):
         """The field of a record that says a goal, and the words above it."""
         for p in self.runner.preds.values():
-            for field, comment, a, b in [x for c in p.made or () for x in c.parts or ()]:
-                if any(x.src is goal.src and goal.src for x in p.made[0].goals[a:b]):
-                    return "%s [%s]  " % (field, p.of.file.path.name), comment
+            for c in vars(p).get("clauses", ()):
+                for field, comment, a, b in c.parts:
+                    if any(x.src is goal.src and goal.src for x in c.goals[a:b]):
+                        return "%s [%s]  " % (field, p.of.file.path.name), comment
         return "", ""
 
 

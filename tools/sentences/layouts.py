@@ -1,7 +1,7 @@
 """A layout file by its sentences, for tools/why and tools/verdict: the call, what is lent to it, and the names of its nodes."""
 from pathlib import Path
 
-from .calls import CALLS, Call, parsed
+from .calls import Call
 from .values import Rec
 
 MOST_BYTES, MOST_SPANS = 16384, 4096          # what the program `layout` lends (document 01)
@@ -28,27 +28,20 @@ class Layout:
     """A file's outcomes, with as much lent as they want, and at most what the program `layout` lends."""
     def __init__(self, crates, data, fill=0, page=None, call=None):
         self.call = call or Call("dk_form" if page is None else "dk_form_paged", crates)
-        bytes_, spans = 64, 16
-        while True:
-            lists = dict(zip(("image", "addresses", "offsets", "sizes"), ([0] * bytes_, [0] * spans, [0] * spans, [0] * spans)))
+        for size, spans in ((64, 16), (1024, 256), (MOST_BYTES, MOST_SPANS)):
+            lists = {name: [0] * (size if name == "image" else spans) for name in ("image", "addresses", "offsets", "sizes")}
             self.inputs = dict(lists, file=data, fill=fill, page=page or 0)
             self.outcomes = self.call.outcomes(self.inputs)
             if len(self.outcomes) != 1:
                 return
             self.answer, *self.lent = self.call.parts(self.outcomes[0])
-            short = self.answer["refusal"] == 14 and self.answer["place"]
-            if self.answer["refusal"] != 14 or (bytes_ if short == 0 else spans) == (MOST_BYTES if short == 0 else MOST_SPANS):
-                self.image = bytes(self.lent[0][:-(-self.answer["length"] // 8)])
-                return
-            bytes_, spans = (min(4 * bytes_, MOST_BYTES), spans) if short == 0 else (bytes_, min(4 * spans, MOST_SPANS))
+            if self.answer["refusal"] != 14:
+                break
+        self.image = bytes(self.lent[0][:-(-self.answer["length"] // 8)])
 
     def tables(self):
         """The record of the tables that the file says, if the sentences came to it."""
-        fields = parsed(CALLS["dk_build"])[1][0][1]
-        for made in Rec.known.values():
-            if len(made.d) == len(fields) and "kinds" in made.d:
-                return made
-        return None
+        return next((made for made in Rec.known.values() if made.d.keys() >= {"kinds", "operands", "numbers", "states", "rows"}), None)
 
     def node(self, i):
         """What the file says of a node, in words."""

@@ -1,32 +1,18 @@
 """Lists that are not known, found from what is said of them: of each element, of its members and their order, of the pieces that it is made of."""
+from collections import namedtuple
+
 from .arithmetic import Arithmetic, ident, listed
-from .terms import NIL, Clause, Pred, equations, fn, folded, free, frees, is_fn, nothing, rel, replace, subst, subterms
+from .terms import NIL, Clause, Goal, Pred, equations, fn, folded, free, frees, is_fn, nothing, rel, replace, subst, subterms
 from .values import Open, Seq
 
-
-def simple(e):
-    """What is 0 whatever else stands in it."""
-    if e[0] != "fn":
-        return e
-    a = tuple(map(simple, e[2]))
-    return a[0] if e[1] in ("/", "%", "*") and a[0] == ("num", 0) else (e[0], e[1], a)
+# What a goal says of elements. name: a function of `given` that finds their places, then their values; or, with a test ("digit" or "below"), places alone, and
+# the function t.. of the same name tells the digit, or the bound. spoken: a function that finds each place of which it speaks. place: of the one element of
+# which it says all there is to say.
+Fact = namedtuple("Fact", "goal name given found places which vars test spoken place")
 
 
 def length(v):
     return ("fn", "length", (("var", v),))
-
-
-def holds(t, v):
-    """Whether a variable stands in a term or goal."""
-    return ("var", v) in subterms(t)
-
-
-class Fact:
-    """What a goal says of elements. name: a function of `given` that finds their places, then their values; or, with a test ("digit" or "below", and a
-    function), places alone, and the test tells the digit, or the bound. said: a function of its arguments that finds each place of which it speaks."""
-    def __init__(self, goal, name, given, found, places, which, vars):
-        self.goal, self.name, self.given, self.found, self.places, self.which, self.vars = goal, name, given, found, places, which, vars
-        self.test, self.said, self.place = None, (None, ()), None
 
 
 class Lists(Arithmetic):
@@ -56,52 +42,42 @@ class Lists(Arithmetic):
                 at = self.length_of(a[2][0][1], st)
                 if at:
                     return st.took(g, *self.split(a, b, at))
-        return False
 
     def by_pieces(self, st):
         """A known list begins with what a definition by cases makes of each element of an unknown one."""
         for g, a, b in equations(st.goals):
-            if not (is_fn(a, "++") and a[2][0][0] == "ufn" and self.known(b, st.bound)):
+            if not (is_fn(a, "++") and a[2][0][0] == "ufn" and len(a[2][0][1].eqs) == 2 and self.known(b, st.bound)):
                 continue
             *args, of = a[2][0][2]
-            piece = self.piece_of(a[2][0][1], args) if all(self.known(x, st.bound) for x in args) else None
-            if piece:
-                x, rest, text, front, r = (self.var(n, "list") for n in ("x", "rest", "text", "l", "r"))
-                given = list(frees(args))
-                goal = rel("==", text, fn("++", (subst(piece[1], {piece[0]: x}), rest)))
-                p = self.helper("piece", given + [text[1]], [x[1], rest[1]], [goal])
-                if p:
-                    known = "".join(ident(v) + ", " for v in given)
-                    steps = [("for", "(%s)" % listed((front[1], r[1])), "pieces(%s, (%s), %s)" % (p, known, self.py(b)), 0)]
-                    return st.took(g, steps, [rel("==", of, front), rel("==", a[2][1], r)], [front[1], r[1]])
-        return False
+            x, rest, text, front = (self.var(n, "list") for n in ("x", "rest", "text", "front"))
+            given, piece = list(frees(args)), self.piece_of(a[2][0][1], args, x)
+            name = piece and self.helper("piece", given + [text[1]], [x[1], rest[1]], [rel("==", text, fn("++", (piece, rest)))])
+            if name and all(v in st.bound for v in given):
+                known = "".join(ident(v) + ", " for v in given)
+                steps = [("for", "(%s)" % listed((front[1], rest[1])), "pieces(%s, (%s), %s)" % (name, known, self.py(b)), 0)]
+                return st.took(g, steps, [rel("==", of, front), rel("==", a[2][1], rest)], [front[1], rest[1]])
 
-    def piece_of(self, d, args):
-        """Of `f .. [] = []` and `f .. (x ∷ l) = g .. x ++ f .. l`: x, and g .. x."""
-        if len(d.eqs) != 2 or d.eqs[0][1] != ("id", "[]"):
+    def piece_of(self, d, args, x):
+        """Of `f .. [] = []` and `f .. (y ∷ l) = g .. y ++ f .. l`: g .. x."""
+        env, (_, nothing_left), (patterns, body) = {}, *d.eqs
+        *front, last = [self.pattern(p, env, d.ctx) for p in patterns]
+        body, rest = self.inst(body, env, d.ctx), ("ufn", d, (*front, last[2][1])) if is_fn(last, "∷") else None
+        if nothing_left != ("id", "[]") or rest not in subterms(body):
             return None
-        env = {}
-        *patterns, last = [self.pattern(p, env, d.ctx) for p in d.eqs[1][0]]
-        body = self.inst(d.eqs[1][1], env, d.ctx)
-        tail = ("ufn", d, tuple(patterns) + (last[2][1],)) if is_fn(last, "∷") else None
-        if tail is None or tail not in subterms(body):
-            return None
-        return last[2][0][1], subst(replace(body, tail, NIL), {p[1]: a for p, a in zip(patterns, args) if p[0] == "var"})
+        return subst(replace(body, rest, NIL), {p[1]: a for p, a in zip((*front, last[2][0]), (*args, x)) if p[0] == "var"})
 
     def by_members(self, st):
         """A list of which it is said what stands in it, that nothing else does, and that each comes before those behind it."""
         universals = [g for g in st.goals if g.fa]
-        for v in [v for v in st.unknown() if self.type_of.get(v) == "list" and ("members", v) not in st.seen]:
+        for v in [v for v in st.unknown() if self.type_of.get(v) == "list"]:
             before = [b for g in universals for b in [self.order_of(v, g, st)] if b]
             members = [m for g in universals for m in [self.member_of(v, g)] if m]
             if before and members and self.nothing_else(v, *members[0], universals):
-                st.seen.add(("members", v))
                 k, premises = members[0]
                 given = [x for x in frees(premises) if x in st.bound]
                 name = self.helper("member", given, [k], premises)
                 if name:
                     return st.let(v, "ranked(%s(%s), %s)" % (name, listed(given), before[0]))
-        return False
 
     def order_of(self, v, g, st):
         """Of "i < j → j < length l → .." what is said of the two elements, as a Python function of them."""
@@ -119,10 +95,10 @@ class Lists(Arithmetic):
         """Of ".. k .. → some i with getD l i ≡ k": k, and the premises that find it."""
         vs, premises, further, conclusion = g.fa
         found = [b[1] for _, a, b in equations(conclusion) if is_fn(a, "getD") and a[2][0] == ("var", v) and b[0] == "var" and b[1] in vs]
-        return (found[0], premises) if found and further and not any(holds(x, v) for x in premises) else None
+        return (found[0], premises) if found and further and v not in frees(premises) else None
 
     def nothing_else(self, v, k, premises, universals):
-        """Whether each element of a list is said to meet the premises by which k stands in it: "i < length l → .. getD l i ..", or of the i that stands at a place."""
+        """Whether each element of a list is said to meet the premises by which k stands in it: "i < length l → .. getD l i ..", or of the i at a place."""
         for vs, said, further, conclusion in (g.fa for g in universals):
             inside = [x.parts[0] for x in said if x.label == "<" and x.parts[1] == length(v)]
             named = {b[1]: ("var", k) for _, a, b in equations(said) if is_fn(a, "getD") and a[2][0] == ("var", v) and a[2][1] in inside and b[0] == "var"}
@@ -132,7 +108,6 @@ class Lists(Arithmetic):
                 own = [x for x in frees(premises) if x != k and x not in frees(have)]
                 if all(any(c.label == p.label and all(a == b or b[1] in own for a, b in zip(c.parts, p.parts)) for c in have) for p in premises):
                     return True
-        return False
 
     # ---- element by element
     def by_elements(self, st):
@@ -152,7 +127,6 @@ class Lists(Arithmetic):
             if name:
                 st.let(n[1], size, 0)
                 return st.search(v, "elementwise(%s, (%s,), %s)" % (name, listed(given), ident(n[1])))
-        return False
 
     def tails(self, st):
         """A universal over all numbers: past the ends of the lists that it looks into, its conclusion no longer depends on the number."""
@@ -167,17 +141,16 @@ class Lists(Arithmetic):
                 if self.known(at, st.bound) and (times or r and r[1] == {x: 1}):
                     ends.append("%s.n * %d" % (self.py(at), times) if times else "%s.n - (%s)" % (self.py(at), r[0]))
                     conclusion = [replace(h, t, t[2][2]) for h in conclusion]
-            conclusion = [rel(g.label, *map(simple, g.parts)) for g in conclusion]
             if ends and all(v in st.bound for v in frees(conclusion)):
                 low, _, met = self.bounds(x, st.goals, st.bound)
-                past = " and ".join(self.pure(g, st.bound) for g in conclusion)
-                return st.search(x, "range(%s, past_ends(%s, [0, %s]))" % (low, past, ", ".join(ends)), met)
-        return False
+                past = " and ".join("(%s)" % self.pure(g, st.bound) for g in conclusion)
+                st.steps.append(("flounder", "not (%s)" % past, "past the lists it does not hold"))
+                return st.search(x, "range(%s, max(0, %s))" % (low, ", ".join(ends)), met)
 
     # ---- all of some lists, from what is said of elements wherever they stand
     def build_lists(self, st):
         sizes = {}
-        for v in [v for v in st.unknown() if self.type_of.get(v) == "list" and ("built", v) not in st.seen]:
+        for v in [v for v in st.unknown() if self.type_of.get(v) == "list"]:
             sizes[v] = self.length_of(v, st) or self.searched_length(v, st)
         counts = {v: self.var("n", "nat") for v in sizes if sizes[v]}
         facts, unread = [], False
@@ -185,13 +158,12 @@ class Lists(Arithmetic):
             if any(v in counts for v in free(g)):
                 new, left = self.facts_of(g, counts, st)
                 facts, unread = facts + new, unread or left
-        lists = [v for v in counts if any(v in f.which and not (f.test and f.test[0] == "below") for f in facts)]
+        lists = [v for v in counts if any(v in f.which and f.test != "below" for f in facts)]
         facts = [f for f in facts if all(v in lists for v in f.which)]
         for v in lists:
-            st.seen.add(("built", v))
             st.let(counts[v][1], sizes[v], 0)
         if lists:
-            given = dict.fromkeys(v for f in facts for v in (*f.given, *f.said[1]))
+            given = dict.fromkeys(v for f in facts for v in f.given)
             self.builds.append((lists, facts, unread))
             self.outside(st, facts, counts)
             st.steps.append(("for", "(%s,)" % listed(lists), "build(%d, dict(%s), [%s])" % (
@@ -200,10 +172,11 @@ class Lists(Arithmetic):
         return bool(lists)
 
     def outside(self, st, facts, counts):
-        """What was used of one element is then only looked at where it is said of places past the end."""
-        for f in [f for f in facts if f.goal.fa and f.place and len(f.goal.fa[3]) == 1]:
+        """What was used of all elements at a place is then only looked at where it is said of places past an end."""
+        for f in [f for f in facts if f.goal.fa and f.place and (f.test or f.spoken) and len(f.goal.fa[3]) == 1]:
             if [h.goal for h in facts].count(f.goal) == 1:
-                past, g, (vs, premises, further, conclusion) = rel("<=", counts[f.which[0]], f.place), f.goal, f.goal.fa
+                past = Goal("or", ways=[([], [rel("<=", counts[v], f.place)]) for v in dict.fromkeys(f.which)])
+                g, (vs, premises, further, conclusion) = f.goal, f.goal.fa
                 st.goals[st.goals.index(g)] = nothing(g.ways[0][0], [past] + g.ways[0][1], (vs, [past] + premises, further, conclusion)).noted(g.src, g.via)
 
     def searched_length(self, v, st):
@@ -236,22 +209,20 @@ class Lists(Arithmetic):
         places = [self.fresh("i", "nat") for _ in cells]
         where = premises + [rel("<", t[2][1], counts[v]) for t, v in zip(cells, which)] + [rel("==", ("var", i), t[2][1]) for i, t in zip(places, cells)]
         known = st.bound | {c[1] for c in counts.values()}
-        given, said = ([v for v in frees(x) if v in known] for x in (where + goals, where))
+        given = [v for v in frees(where + goals) if v in known]
         only = goals[0] if len(goals) == 1 and goals[0].kind == "rel" else None
-        found, place = places + us + [v for v in vs if v not in places + us], next(iter(cells))[2][1] if len(cells) == 1 else None
+        others, test = [v for v in vs if v not in places + us], None
+        place = next(iter(cells))[2][1] if len({t[2][1] for t in cells}) == 1 else None
+        found = places + us + others
         name = self.helper("fact", given, found, where + goals) if only is None or only.label == "==" else None
-        if name:
-            f = Fact(g, name, given, found, len(places), which, vs)
-            f.said, f.place = (self.helper("said", said, places, where), said), place
-            return f
-        test, found = self.test_of(only, cells[next(iter(cells))]) if only and place else None, places + [v for v in vs if v not in places]
-        name = test and self.helper("fact", given, found, where)
         if not name:
-            return None
-        f = Fact(g, name, given, found, len(places), which, vs)
-        f.test, f.place = (test[0], "t" + name), None if test[0] == "below" else place
-        self.define(["def t%s(%s): return %s" % (name, listed(given + found), test[1])])
-        return f
+            test, found = self.test_of(only, cells[next(iter(cells))]) if only and len(cells) == 1 else None, places + others
+            name = test and self.helper("fact", given, found, where)
+        if test and name:
+            self.define(["def t%s(%s): return %s" % (name, listed(given + found), test[1])])
+        if not name or test:
+            return name and Fact(g, name, given, found, len(places), which, vs, test[0], None, None if test[0] == "below" else place)
+        return Fact(g, name, given, found, len(places), which, vs, None, self.helper("spoken", given, places, where), place)
 
     def test_of(self, g, u):
         """("digit", power, base and value) of u / power % base ≡ value, or ("below", bound), as Python."""
@@ -265,57 +236,48 @@ class Lists(Arithmetic):
     def run_build(self, k, env, lengths):
         """The lists whose elements are as the facts say, if they leave one value for each. A cell is (list, place)."""
         lists, facts, unread = self.builds[k]
-        cells, digits, below, why = {}, {}, {}, {}
-        if not all(self.gather(f, env, [lists.index(v) for v in f.which], cells, digits, below, why) for f in facts):
+        said, below, why = {}, {}, {}
+        if not all(self.gather(f, env, [lists.index(v) for v in f.which], said, below, why) for f in facts):
             return
         for gap in (0, 1):                        # what is said by nothing is tried with two values: met by both, two outcomes are left
             made, left_open = [], False
             for w, n in enumerate(lengths):
-                made.append([])
-                for at in zip([w] * n, range(n)):
-                    number, undecided = self.number(digits[at], below.get(at), gap) if at in digits else (cells.get(at, gap), at not in cells)
-                    if not undecided and cells.get(at, number) != number:
-                        return
-                    made[w].append(number)
-                    left_open |= undecided
+                found = [self.number(said.get((w, i), {}), below.get((w, i)), gap) for i in range(n)]
+                made.append(Seq(tuple(number for number, _ in found)))
+                left_open |= any(undecided for _, undecided in found)
+            if any(number is None for each in made for number in each):
+                return
             if left_open and unread:
-                for f in facts:
-                    if self.impossible(f, env, {x[:f.places] for each in why.values() for h, x, _ in each if h is f}):
-                        return
                 raise Open("of an element too little is understood")
-            made = tuple(Seq(tuple(m)) for m in made)
-            self.why[made] = lists, why
-            yield made
+            self.why[tuple(made)] = lists, why
+            yield tuple(made)
             if not left_open:
                 return
 
-    def gather(self, f, env, which, cells, digits, below, why):
-        """Puts what a fact says into the cells; False where it contradicts what is there."""
-        known, test = [env[ident(v)] for v in f.given], f.test and self.names[f.test[1]]
+    def gather(self, f, env, which, said, below, why):
+        """Puts what a fact says into the cells, {(power, base): digit} each, a value with no base; False where it contradicts what is there, or where it
+        speaks of a place and finds no value for it."""
+        known, test = [env[ident(v)] for v in f.given], f.test and self.names["t" + f.name]
+        places = set()
         for found in self.names[f.name](*known):
-            if test is None:
-                for w, i, u in zip(which, found, found[f.places:]):
-                    if cells.setdefault((w, i), u) != u:
-                        return False
-                    why.setdefault((w, i), []).append((f, found, None))
+            places.add(found[:f.places])
+            told = test and test(*known, *found)
+            if f.test == "below":
+                at = which[0], found[0]
+                below[at] = min(told, below.get(at, told))
                 continue
-            at, said = (which[0], found[0]), test(*known, *found)
-            if f.test[0] == "below":
-                below[at] = min(said, below.get(at, said))
-                continue
-            power, base, v = said
-            if v >= base or digits.setdefault(at, {}).setdefault((power, base), v) != v:
-                return False
-            why.setdefault(at, []).append((f, found, power))
-        return True
-
-    def impossible(self, f, env, found):
-        """Whether a fact speaks of a place for which it finds no value."""
-        name, given = f.said
-        return name and any(place not in found for place in set(self.names[name](*[env[ident(v)] for v in given])))
+            power, base, *values = told or (1, None, *found[f.places:])
+            for w, i, v in zip(which, found, values):
+                if base and v >= base or said.setdefault((w, i), {}).setdefault((power, base), v) != v:
+                    return False
+                why.setdefault((w, i), []).append((f, found, test and power))
+        return not f.spoken or places.issuperset(self.names[f.spoken](*known))
 
     def number(self, digits, below, gap):
-        """The number that has these digits, and whether some digit of it is left open."""
+        """The number that has these digits (None where there is none), and whether some digit of it is left open."""
+        whole = digits.get((1, None))
+        if whole is not None or not digits:
+            return (gap, True) if not digits else (whole if all(b is None or whole // p % b == d for (p, b), d in digits.items()) else None, False)
         base, total, power, left_open = next(iter(digits))[1], 0, 1, False
         while (power, base) in digits if below is None else power < below:
             left_open |= (power, base) not in digits

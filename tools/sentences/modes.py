@@ -1,6 +1,7 @@
 """The order in which the premises of a clause are met when some of its arguments are known: tests first, then equations that find something, then other
 sentences, and where nothing goes on, a number of which it is known how large it can be."""
 from .arithmetic import elements, ident, listed
+from .clauses import PAIR, modules_env
 from .lists import Lists, length
 from .terms import NIL, Clause, equations, false, folded, free, frees, is_fn, rel, subst, subterms
 
@@ -47,26 +48,33 @@ class State:
 
 
 class Modes(Lists):
-    def plan(self, c, bound, needed, me=None, endless=False):
-        """[(steps, known)], one for each way of going on, or None"""
-        return self.planned(State(c, c.goals, bound, needed, me, endless))
-
     def planned(self, st):
+        """[(steps, known)], one for each way of going on, or None"""
         while st.goals or not all(v in st.bound for v in st.needed):
-            if any(false(g) for g in st.goals):
-                return self.ended(st, [("guard", "False")])
             if not any(rule(st) for rule in self.rules()):
                 return self.fork(st)
         return [(st.steps, st.bound)]
 
-    def ended(self, st, steps):
-        """A way that ends before everything is known."""
-        return [(st.steps + steps, st.bound | set(st.needed) | set(frees(st.goals)))]
+    def cases(self, d):
+        """A definition by cases, as a Python function."""
+        if d in self.functions:
+            return self.functions[d]
+        self.functions[d] = name = "u%d" % len(self.functions)
+        n = len(d.of_modules)
+        args = [self.fresh("a") for _ in range(n + len(d.eqs[0][0]))]
+        lines = ["def %s(%s):" % (name, listed(args))]
+        for patterns, body in d.eqs:
+            env = modules_env(d, [("var", v) for v in args[:n]])
+            goals = [rel("==", ("var", v), self.pattern(p, env, d.ctx)) for v, p in zip(args[n:], patterns)]
+            (steps, _), = self.planned(State(Clause("", [], goals, []), goals, args, []))
+            lines += [" while True:"] + self.emit(steps, 2, "break")[0] + ["  return " + self.py(self.inst(body, env, d.ctx))]
+        self.define(lines)
+        return name
 
     def rules(self):
-        return (self.easy, self.call, self.record_apart, self.structured, self.digits, self.multiple, self.dear_call, self.few, self.least,
-                self.ends_of_range, self.endless_count, self.tails,
-                self.by_length, self.by_pieces, self.by_members, self.build_lists, self.by_elements, self.short_list)
+        return (self.easy, self.call, self.record_apart, self.structured, self.digits, self.multiple, lambda st: self.call(st, (1, 2, 3, 99)), self.few,
+                self.least, self.ends_of_range, self.endless_count, self.tails, self.by_length, self.by_pieces, self.by_members, self.build_lists,
+                self.by_elements, self.short_list)
 
     def easy(self, st):
         for g in st.goals:
@@ -81,18 +89,14 @@ class Modes(Lists):
             r = self.meet(g, st)
             if r:
                 return st.took(g, *r)
-        return False
 
-    def call(self, st, most=0):
+    def call(self, st, costs=(0,)):
         """Another sentence that finds something, if it does not have to try every value of a number that is only known to be so large."""
-        for g in st.goals:
-            r = self.meet(g, st) if g.kind in ("call", "or") and not self.known(g, st.bound) else None
-            if r and sum(s[3] for s in r[0] if s[0] == "for") <= most:
-                return st.took(g, *r)
-        return False
-
-    def dear_call(self, st):
-        return any(self.call(st, most) for most in (1, 2, 3, 99))
+        for most in costs:
+            for g in [g for g in st.goals if g.kind in ("call", "or") and not self.known(g, st.bound)]:
+                r = self.meet(g, st)
+                if r and sum(s[3] for s in r[0] if s[0] == "for") <= most:
+                    return st.took(g, *r)
 
     def cost(self, p, mask):
         """How many numbers are tried with every value that they may have."""
@@ -117,7 +121,7 @@ class Modes(Lists):
         mask = [self.known(a, st.bound) for a in args]
         at = None if g.kind == "not" else (st.c, st.me, args)
         for i in reversed(range(len(args) - p.indices, len(args))):    # an index is rather found than given, so that its table serves every value
-            if mask[i] and not p.big[i - (len(args) - p.indices)]:
+            if mask[i]:
                 mask[i], relaxed, self.relaxed = False, self.relaxed, False
                 mask[i] = not self.ok(p, tuple(mask), at) or self.cost(p, tuple(mask)) > 0
                 self.relaxed = relaxed
@@ -143,25 +147,19 @@ class Modes(Lists):
             return False
         if k in self.modes:
             return self.modes[k] != "busy" or not me or me[0] is not p or self.smaller(at, mask)
-        self.modes[k], mark, plans = "busy", len(self.done), []
+        before, plans, given = dict(self.modes), [], [v for v, m in zip(p.args, mask) if m]
+        self.modes[k] = "busy"
         for c in p.clauses:
-            r = self.planned_clause(p, c, mask)
-            if r is None and self.lenient is not p:
-                for x in self.done[mark:] + [k]:
-                    self.modes.pop(x, None)
-                del self.done[mark:]
+            goals = [rel("==", ("var", v), h) for v, h, m in zip(p.args, c.head, mask) if m and h != ("var", v)]
+            needed = [v for h, m in zip(c.head, mask) if not m for v in free(h)]
+            r = self.planned(State(c, goals + c.goals, given, needed, k, p.endless))
+            if r is None:
+                self.modes = before
                 self.bad[self.relaxed].add(k)
                 return False
-            plans += r or [(c, [("flounder", "%s of %s cannot be run" % (c.name, p.name))], set(c.vars).union(*map(free, c.head)))]
+            plans += [(c, steps, bound) for steps, bound in r]
         self.modes[k] = plans
-        self.done.append(k)
         return True
-
-    def planned_clause(self, p, c, mask):
-        goals = [rel("==", ("var", v), h) for v, h, m in zip(p.args, c.head, mask) if m and h != ("var", v)]
-        needed = [v for h, m in zip(c.head, mask) if not m for v in free(h)]
-        r = self.plan(Clause(c.name, c.vars, goals + c.goals, c.head, fa=c.fa), [v for v, m in zip(p.args, mask) if m], needed, (p, mask), p.endless)
-        return r and [(c, steps, bound) for steps, bound in r]
 
     def smaller(self, at, mask):
         """Whether a call is given a part of what the clause was: of a known argument its predecessor, a summand, the rest of a list."""
@@ -169,17 +167,14 @@ class Modes(Lists):
         for v, h, a, m in zip(me[0].args, c.head, args, mask):
             if m and (is_fn(h, "suc", "+") and a in h[2] or is_fn(h, "∷") and a in list(subterms(h))[1:] or self.relaxed and a != h and a != ("var", v)):
                 return True
-        return False
 
     def fork(self, st):
         """Where nothing goes on: a choice, or a sentence that does not rest on itself, put in its place, each of its constructors by itself."""
         for g in st.goals if st.depth < 2 else ():
             if g.kind == "or":
                 ways = [goals for _, goals in g.ways]
-            elif g.kind == "not" and not g.ways[0][0] and not self.known(g, st.bound):
-                ways = [self.negate([], [x])[1] for x in g.ways[0][1]]
             elif g.kind == "call" and len(g.label.clauses) <= 3 and g.label not in [x.label for c in g.label.clauses for x in c.goals]:
-                ways = [self.unfolded(g, self.renamed(c)) for c in g.label.clauses]
+                ways = [self.unfolded(g, c) for c in g.label.clauses]
             else:
                 continue
             rest, out = [x for x in st.goals if x is not g], []
@@ -193,32 +188,37 @@ class Modes(Lists):
         return None
 
     def unfolded(self, g, c):
-        """A clause's goals in the place of a call."""
-        m = dict(zip(g.label.args, g.parts))
+        """A clause's goals in the place of a call, with variables of its own."""
+        m = dict(zip(g.label.args, g.parts), **{v: self.copy(v) for v in c.vars})
         heads = [subst(h, m) for h in c.head]
         return [rel("==", a, h) for a, h in zip(g.parts, heads) if h != a] + [subst(x, m) for x in c.goals]
 
     def tested(self, st):
         """Where a way cannot be gone on, but is open only where known numbers are so: that is tested, and if they are, nothing is answered."""
         tests = [p for g in st.goals for p in [self.pure(g, st.bound)] if p]
-        return self.ended(st, [("guard", p) for p in tests] + [("flounder", "a way that no order of premises goes")]) if self.testing and tests else None
+        steps = st.steps + [("guard", p) for p in tests] + [("flounder", "True", "a way that no order of premises goes")]
+        return [(steps, st.bound | {*st.needed, *frees(st.goals)})] if self.testing and tests else None
 
     # ---- where nothing can be met as it stands
     def record_apart(self, st):
-        """A record becomes its fields."""
-        for v in [v for v in st.unknown() if self.is_record(v) and v not in st.seen]:
-            st.seen.add(v)
-            d = self.type_of[v][1]
-            names, kinds = zip(*sorted((p[0], p[1]) for p in d.parts))
-            return st.put(v, ("rec", names, tuple(self.var(n, self.kind(raw, d.ctx)) for n, raw in zip(names, kinds))))
-        return False
+        """A record becomes its fields, and what is looked at as a pair a pair."""
+        for v in [v for v in st.unknown() if v not in st.seen]:
+            fields = []
+            of = self.type_of.get(v)
+            if isinstance(of, tuple) and of[0] == "rec":
+                d = of[1]
+                fields = sorted((p[0], self.kind(p[1], d.ctx)) for p in d.parts)
+            elif any(t[0] == "proj" and t[1] in PAIR and t[2][0] == ("var", v) for g in st.goals for t in subterms(g)):
+                fields = [(n, "nat") for n in PAIR]
+            if fields:
+                st.seen.add(v)
+                return st.put(v, ("rec", tuple(n for n, _ in fields), tuple(self.var(n, t) for n, t in fields)))
 
     def structured(self, st):
         """x ≡ a ∷ b: x becomes that."""
         for g, a, b in equations(st.goals):
-            if id(g) not in st.seen and (b[0] in ("rec", "con") or is_fn(b, "∷", "[]")) and a[0] == "var" and a[1] not in st.bound and a[1] not in free(b):
+            if id(g) not in st.seen and (b[0] == "rec" or is_fn(b, "∷", "[]")) and a[0] == "var" and a[1] not in st.bound and a[1] not in free(b):
                 return st.put(a[1], b, g)
-        return False
 
     def differences(self, st):
         """(constant, {unknown: factor}) of each equation in two unknowns or more."""
@@ -235,7 +235,6 @@ class Modes(Lists):
                 least, most = (" + ".join(["0"] + ["%d * (%s)" % (n, tops[v]) for v, n in factors.items() if n * sign > 0]) for sign in (-1, 1))
                 sums = ("-(%s) - (%s)" % (c, s) for s in (most, least)) if k > 0 else ("(%s) + (%s)" % (c, s) for s in (least, most))
                 return st.search(x, "range(max(0, -((%s) // -%d)), (%s) // %d + 1)" % tuple(y for s in sums for y in (s, abs(k))))
-        return False
 
     def multiple(self, st):
         """c + x + m z ≡ 0 in two unknowns: each x that makes c + x a multiple of m."""
@@ -245,23 +244,17 @@ class Modes(Lists):
                     low, high, met = self.bounds(x, st.goals, st.bound)
                     if high or st.endless:
                         return st.search(x, "multiples(%s, %s, %s, %d, %s)" % (low, high, c, factors[x], factors[z]), met)
-        return False
 
     def few(self, st):
         """One of a few values, or a number with a highest."""
         for v in st.unknown():
             t = self.type_of.get(v)
-            if t in ("bool", "unit"):
-                return st.search(v, "(False, True)" if t == "bool" else "((),)")
-            if self.is_record(v, "enum"):
-                return st.search(v, "(%s,)" % ", ".join("(%r,)" % q[0] for q in t[1].parts))
             low, high, met = self.bounds(v, st.goals, st.bound) if t == "nat" else (None, None, ())
             if high:
                 left = [g for g in st.goals if g not in met]
                 once = v not in st.needed and v not in frees(left)     # where nothing else asks for it, the lowest will do
                 cost = int(not met and any(g.kind == "call" and v in free(g) for g in st.goals))
                 return st.search(v, "range(%s, %s + 1)%s" % (low, high, "[:1]" if once else ""), met, cost)
-        return False
 
     def least(self, st):
         """".. and no other is lower": the first that there is bounds it."""
@@ -277,11 +270,12 @@ class Modes(Lists):
             name = self.helper("least", given, out, premises, True)
             if name:
                 new = {v: self.var(v, "nat") for v in out}
-                st.steps.append(("let", "(%s,)" % listed(x[1] for x in new.values()), "first(%s(%s))" % (name, listed(given))))
+                found = ident(self.fresh("found"))
+                st.steps += [("let", found, "next(%s(%s), None)" % (name, listed(given))), ("flounder", found + " is None", "nothing to bound by"),
+                             ("let", "(%s,)" % listed(x[1] for x in new.values()), found)]
                 st.bound |= {x[1] for x in new.values()}
                 st.goals.append(subst(conclusion[0], new))
                 return True
-        return False
 
     def ends_of_range(self, st):
         """All from low to low + n, and 0 < n: so the first of them, and the last."""
@@ -301,12 +295,10 @@ class Modes(Lists):
                 m = dict({v: self.copy(v) for v in further}, **{b: end})
                 st.goals += [subst(x, m) for x in conclusion]
             return True
-        return False
 
     def endless_count(self, st):
         for v in [v for v in st.unknown() if st.endless and self.type_of.get(v) == "nat"]:
             return st.search(v, "itertools.count(%s)" % self.bounds(v, st.goals, st.bound)[0])
-        return False
 
     def short_list(self, st):
         """A list of so many elements, each looked at by its place, becomes as many unknowns."""
@@ -319,4 +311,3 @@ class Modes(Lists):
                         e = ("fn", "∷", (self.var("e", "nat"), e))
                     if not any(is_fn(x, "getD") and elements(x[2][0])[0] for y in st.goals for x in subterms(subst(y, {v: e}))):
                         return st.put(v, e)
-        return False

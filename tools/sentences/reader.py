@@ -1,11 +1,11 @@
 """Reads sentence files: declarations (data, record, abbrev, unfoldable) with the comment above each. Statements of theorems and their proofs are passed over.
 
-A term is a tuple: id num app proj lam pi arr sig prod sum op rec tuple; the last part of lam pi arr sig prod sum and op is its text. It is not the kit's
-reader: precedences are those that the files use, and what does not fit them is refused."""
+A term is a tuple: id num app proj lam pi arr sig prod sum op rec tuple; the last part of lam pi arr sig prod sum and op is its text, and before that of lam
+stand its words. It is not the kit's reader: precedences are those that the files use, and what does not fit them is refused."""
 import re
 from pathlib import Path
 
-TOKEN = re.compile(r"\s*(?:([(){};,λ])|(\.[^\s(){};,.]+)|(\.)|([^\s(){};,.λ]+(?:\.[^\s(){};,.λ]+)*))")
+TOKEN = re.compile(r"[(){};,λ]|\.[^\s(){};,.]*|[^\s(){};,.λ]+(?:\.[^\s(){};,.λ]+)*")
 LEVELS = (("→",), ("⊎",), ("×",), ("≡", "<", "≤"), ("∷", "++"), ("+", "-", "+ℤ", "-ℤ"), ("*", "/", "%", "*ℤ"), ("^",))    # the loosest first
 RIGHT, ALONE = (0, 1, 2, 4, 7), 3               # levels that group to the right; comparisons do not group
 NAMED = {"→": "arr", "⊎": "sum", "×": "prod"}
@@ -18,21 +18,15 @@ class Unreadable(Exception):
 
 class Parser:
     def __init__(self, text):
-        self.text, self.t, self.ends, self.i, at, end = text, [], [0], 0, 0, len(text.rstrip())
-        while at < end:
-            m = TOKEN.match(text, at)
-            if not m:
-                raise Unreadable(text[at:at + 40])
-            self.t.append(m.group(m.lastindex))
-            at = m.end()
-            self.ends.append(at)
+        found = list(TOKEN.finditer(text))
+        self.text, self.t, self.ends, self.i = text, [m.group() for m in found] + [None], [0] + [m.end() for m in found], 0
 
     def peek(self):
-        return self.t[self.i] if self.i < len(self.t) else None
+        return self.t[self.i]
 
     def next(self):
         self.i += 1
-        return self.t[self.i - 1] if self.i <= len(self.t) else None
+        return self.t[self.i - 1]
 
     def want(self, x):
         if self.next() != x:
@@ -56,12 +50,12 @@ class Parser:
 
     def binder(self):
         """(names, type, implicit) if one stands here."""
-        j = self.i + 1
-        while self.peek() in ("(", "{") and j < len(self.t) and self.t[j] not in "(){};,λ." and self.t[j] != ":":
+        j, implicit = self.i + 1, self.peek() == "{"
+        while self.peek() in ("(", "{") and self.t[j] not in STOP and self.t[j] not in "({λ":
             j += 1
-        if j == self.i + 1 or j >= len(self.t) or self.t[j] != ":":
+        if j == self.i + 1 or self.t[j] != ":":
             return None
-        names, implicit, self.i = tuple(self.t[self.i + 1:j]), self.peek() == "{", j + 1
+        names, self.i = tuple(self.t[self.i + 1:j]), j + 1
         of = self.expr()
         self.want("}" if implicit else ")")
         return names, of, implicit
@@ -104,8 +98,8 @@ class Parser:
         while not self.skip("."):
             b = self.binder()
             params += [(n, b[1]) for n in b[0]] if b else [(self.next(), None)]
-        start = self.i
-        return ("lam", tuple(params), self.expr(), self.since(start))
+        start, body = self.i, self.expr()
+        return ("lam", tuple(params), body, frozenset(self.t[start:self.i]), self.since(start))
 
     def app(self):
         f, args = self.post(), []
@@ -144,15 +138,10 @@ class Parser:
         return ("num", int(t)) if t.isdigit() else ("id", t)
 
 
-class Block:
-    """A module with parameters, (name, type, implicit) each."""
-    def __init__(self, params):
-        self.params = params
-
-
 class Def:
-    """A declaration; its parts are constructors or fields, (name, type, comment, line) each, or equations."""
-    def __init__(self, kind, name, file, blocks, params, sig, comment, line):
+    """A declaration, or a module with parameters, (name, type, implicit) each; its parts are constructors or fields, (name, type, comment, line) each, or
+    equations."""
+    def __init__(self, kind, name, file, blocks, params, sig=None, comment="", line=0):
         self.kind, self.name, self.file, self.blocks, self.params = kind, name, file, blocks, params
         self.sig, self.comment, self.line, self.parts, self.eqs, self.ctx = sig, comment, line, [], [], (file, blocks)
         self.of_modules = [p for b in blocks for p in b.params if not p[2]]
@@ -182,15 +171,14 @@ def items(text):
 class File:
     def __init__(self, path, text):
         self.path, self.defs, self.constructors, self.imports, self.alias = path, {}, set(), {}, {}
-        stack = []                                # (indent, Block or Def) that the item stands in
+        stack = []                                # (indent, declaration) that the item stands in
         for indent, words, comment, line in items(text):
-            while stack and stack[-1][0] >= indent:
-                stack.pop()
-            made = self.item(words, comment, line, tuple(x for _, x in stack if isinstance(x, Block)), stack[-1][1] if stack else None)
+            stack = [x for x in stack if x[0] < indent]
+            made = self.item(words, comment, line, tuple(d for _, d in stack if d.kind == "module"), stack[-1][1] if stack else None)
             stack += [(indent, made)] if made else []
 
     def item(self, words, comment, line, blocks, within):
-        if isinstance(within, Def):
+        if within and within.kind != "module":
             name, of = re.match(r"(?:pub )?(\S+) : (.*)", words, re.S).groups()
             within.parts.append((name, Parser(of).whole(), comment, line))
             self.constructors |= {name} if within.kind == "data" else set()
@@ -199,7 +187,7 @@ class File:
             self.imports.update((n.strip(), path) for n in (names or "").split(",") if n.strip())
             self.alias[alias] = path
         elif words.startswith("module "):
-            return Block(Parser(re.sub(r"where$", "", words[8:].strip())).telescope())
+            return Def("module", "", self, blocks, Parser(words.split(None, 2)[2]).telescope())
         elif not words.startswith(("pub mod ", "infix")):
             return self.declaration(words, comment, line, blocks)
         return None

@@ -1,5 +1,6 @@
 """The plans become Python, and the Python is run. Every sentence that is met is kept in a table, with the constructor and its numbers: all outcomes are found,
 so that each run also tests that there is exactly one."""
+import concurrent.futures
 import gc
 import itertools
 import re
@@ -8,6 +9,7 @@ import threading
 
 from . import values
 from .arithmetic import ident
+from .clauses import indices_of
 from .modes import Modes
 from .values import Floundered
 
@@ -17,11 +19,7 @@ class Runner(Modes):
         super().__init__(crates, texts)
         self.names = dict(vars(values), itertools=itertools, build=self.run_build, NONE=values.Seq())
         self.functions, self.tops, self.topping, self.builds, self.tables, self.why = {}, {}, [], [], {}, {}
-        self.reset()
-
-    def reset(self, relaxed=False, lenient=None):
-        self.modes, self.bad, self.done, self.compiled = {}, {False: set(), True: set()}, [], set()
-        self.relaxed, self.lenient, self.testing = relaxed, lenient, False
+        self.modes, self.bad, self.compiled, self.relaxed, self.testing = {}, {False: set(), True: set()}, set(), True, False
 
     def function(self, p, mask):
         return "p%d_%s" % (p.id, "".join("io"[not m] for m in mask))
@@ -39,7 +37,7 @@ class Runner(Modes):
             elif kind == "guard":
                 lines.append("%sif not (%s): %s" % (pad, rest[0], out))
             elif kind == "flounder":
-                lines.append("%sraise Floundered(%r)" % (pad, rest[0]))
+                lines.append("%sif %s: raise Floundered(%r)" % (pad, *rest))
             else:
                 lines.append("%sfor %s in %s:" % (pad, *rest[:2]))
                 depth, out = depth + 1, "continue"
@@ -49,7 +47,7 @@ class Runner(Modes):
         """What a function finds; first comes code for it, and for all that it asks."""
         if name not in self.compiled:
             by_name = {self.function(*k): k for k in self.modes}
-            work = [name] + [n for _, facts, _ in self.builds for f in facts for n in (f.name, f.said[0])]
+            work = [name] + [n for _, facts, _ in self.builds for f in facts for n in (f.name, f.spoken)]
             while work:
                 k = work.pop()
                 if k in by_name and k not in self.compiled:
@@ -60,65 +58,52 @@ class Runner(Modes):
         return self.names[name](*args)
 
     def code(self, p, mask):
-        name, args, calls = self.function(p, mask), [ident(v) for v, m in zip(p.args, mask) if m], []
-        for i, (c, steps, bound) in enumerate(self.modes[p, mask]):
-            lines, depth = self.emit(steps, 1)
+        """The texts of functions for a sentence with these arguments known; a clause is a loop that is left where it is not met."""
+        name, args, once, plans = self.function(p, mask), [ident(v) for v, m in zip(p.args, mask) if m], all(mask), self.modes[p, mask]
+        ranges = [self.ranges(name, args, v, plans[0][1]) for v in args if p.anon and once and len(plans) == 1]
+        if any(ranges):
+            return next(filter(None, ranges))
+        lines, ends = ["def %s(%s):" % (name, ", ".join(args))], [" return False" if once else " yield from ()"]
+        if not p.anon:
+            self.names["T" + name] = self.tables[p, mask] = {}
+            lines += [" k = (%s)" % "".join(a + ", " for a in args), " t = T%s.get(k)" % name, " if t is not None: return t", " T%s[k] = BUSY; t = {}" % name]
+            ends = [" T%s[k] = t" % name, " return t"]
+        for c, steps, bound in plans:
             found = "".join(self.py(h) + ", " for h, m in zip(c.head, mask) if not m)
             numbers = "".join((ident(v) if v in bound else "None") + ", " for v in c.vars)
-            said = "(%s), (%s)" % (found, numbers) if not p.anon else "(%s)" % found
-            calls.append((p.clauses.index(c), "%s_%d(%s)" % (name, i, ", ".join(args))))
-            yield ["def %s_%d(%s):" % (name, i, ", ".join(args))] + lines + [" " * depth + "yield " + said]
-        if p.anon and all(mask) and len(calls) == 1:
-            for v in args:
-                ranges = self.ranges(name, args, v, self.modes[p, mask][0][1])
-                if ranges:
-                    yield from ranges
-                    return
-        yield ["def %s(%s):" % (name, ", ".join(args))] + (self.asked if p.anon else self.tabled)(p, mask, args, calls)
+            told = ["return True" if once else "yield (%s)" % found] if p.anon else ["t.setdefault((%s), (%d, (%s)))" % (found, p.clauses.index(c), numbers)]
+            body, depth = self.emit(steps, 2, "break")
+            lines += [" while True:"] + body + [" " * depth + x.strip() for x in told + (ends if once and not p.anon else [])] + ["  break"]
+        return [lines + ends]
 
     def ranges(self, name, args, v, steps):
         """A search whose only word on a number v is that it is at least something and below something: the ranges are found once, and then looked up."""
         on_v = [s for s in steps if re.search(r"\b%s\b" % v, " ".join(s[1:3]))]
-        low = [s for s in on_v if s[0] == "guard" and s[1].endswith(" <= " + v) and v not in s[1][:-len(v)]]
-        high = [s for s in on_v if s[0] == "guard" and s[1].startswith(v + " < ") and v not in s[1][len(v):]]
+        low = [s[1][:-len(" <= " + v)] for s in on_v if s[0] == "guard" and s[1].endswith(" <= " + v) and v not in s[1][:-len(v)]]
+        high = [s[1][len(v + " < "):] for s in on_v if s[0] == "guard" and s[1].startswith(v + " < ") and v not in s[1][len(v):]]
         if len(on_v) != 2 or len(low) != 1 or len(high) != 1 or not any(s[0] == "for" for s in steps):
             return None
-        given = ", ".join(a for a in args if a != v)
+        given = "".join(a + ", " for a in args if a != v)
         lines, depth = self.emit([s for s in steps if s not in on_v], 1)
-        table = "T" + name
-        self.names[table] = self.tables[name] = {}
-        return [["def %s_all(%s):" % (name, given)] + lines + [" " * depth + "yield %s, %s" % (low[0][1][:-len(" <= " + v)], high[0][1][len(v + " < "):])],
-                ["def %s(%s):" % (name, ", ".join(args)), " t = %s.get((%s,))" % (table, given or "0"),
-                 " if t is None: t = %s[%s,] = Ranges(%s_all(%s))" % (table, given or "0", name, given), " return t.hold(%s)" % v]]
+        self.names["T" + name] = self.tables[name] = {}
+        return [["def %s_all(%s):" % (name, given)] + lines + [" " * depth + "yield %s, %s" % (low[0], high[0])],
+                ["def %s(%s):" % (name, ", ".join(args)), " t = T%s.get((%s))" % (name, given),
+                 " if t is None: t = T%s[(%s)] = Ranges(%s_all(%s))" % (name, given, name, given), " return t.hold(%s)" % v]]
 
-    def asked(self, p, mask, args, calls):
-        if all(mask):
-            return [" for _ in %s: return True" % c for _, c in calls] + [" return False"]
-        return [" yield from " + c for _, c in calls] or [" return ()"]
-
-    def tabled(self, p, mask, args, calls):
-        table = "T" + self.function(p, mask)
-        self.names[table] = self.tables[p, mask] = {}
-        body = []
-        for i, c in calls:
-            body += ["if not t:", " for o, e in %s: t[o] = (%d, e); break" % (c, i)] if all(mask) else \
-                ["for o, e in %s:" % c, " if o not in t: t[o] = (%d, e)" % i]
-        return [" k = (%s)" % "".join(a + ", " for a in args), " t = %s.get(k)" % table, " if t is None:", "  %s[k] = BUSY; t = {}" % table] + \
-            ["  " + line for line in body] + ["  %s[k] = t" % table, " return t"]
-
-    def query(self, d, count):
-        """(sentence, which of its arguments are known, their order) of a declaration of which all but the last of so many arguments are given."""
+    def query(self, name, count):
+        """(declaration, sentence, which of its arguments are known, their order) of the declaration of this name that takes so many arguments, the last of
+        which is to be found."""
+        found = [f.defs[name] for f in self.lib.sentences() if name in f.defs]
+        found = [d for d in found if len(d.given()) + len(indices_of(d)) == count]
         vs = [self.fresh("x") for _ in range(count)]
-        goals = self.goals(self.make(d, [("var", v) for v in vs]), [])
+        goals = [g for d in found for g in self.goals(self.make(d, [("var", v) for v in vs]), [])]
         if [g.kind for g in goals] != ["call"]:
-            raise Floundered("%s is no sentence of an outcome" % d.name)
+            raise Floundered("%s is not one sentence of an outcome, with %d arguments" % (name, count))
         p, order = goals[0].label, [vs.index(a[1]) for a in goals[0].parts]
         mask = tuple(i != count - 1 for i in order)
-        for relaxed, lenient in ((False, None), (True, None), (True, p)):
-            self.reset(relaxed, lenient)
-            if self.ok(p, mask, None):
-                return p, mask, order
-        raise Floundered("%s: no order of its premises finds the outcome" % d.name)
+        if not self.ok(p, mask, None):
+            raise Floundered("%s: no order of its premises finds the outcome" % name)
+        return found[0], p, mask, order
 
     def clear(self):
         for t in self.tables.values():
@@ -129,19 +114,8 @@ class Runner(Modes):
 
 def deep(work):
     """Runs work where sentences may rest on many others."""
-    out = []
-
-    def run():
-        try:
-            out.append((work(), None))
-        except BaseException as error:
-            out.append((None, error))
     gc.set_threshold(100000)                  # the tables of a run are many small things that all stay
     sys.setrecursionlimit(10 ** 6)
     threading.stack_size(1 << 29)
-    t = threading.Thread(target=run)
-    t.start()
-    t.join()
-    if out[0][1]:
-        raise out[0][1]
-    return out[0][0]
+    with concurrent.futures.ThreadPoolExecutor(1) as one:
+        return one.submit(work).result()

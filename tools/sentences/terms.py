@@ -4,8 +4,10 @@ A term is (kind, label, parts); var, num, lit, ty, bot and top have no parts. Va
 ufn, a definition by cases. What is said is rel sig pi sum call and abbr, with the term of the file behind the parts. What waits for arguments is papp, bif
 and clo, a λ with the values of the names that it uses. A goal is a comparison (rel), another sentence (call), a choice (or) or a search that must find nothing
 (not); a choice of nothing is false."""
+import functools
+from collections import namedtuple
+
 NIL = ("fn", "[]", ())
-BOUND = ("sig", "pi")
 
 
 class Goal:
@@ -42,27 +44,22 @@ def equations(goals):
             yield (g, *g.parts[::-1])
 
 
-class Clause:
-    """A constructor: its variables, premises, and what it concludes of each argument; parts of a record: (field, comment, first goal, goal behind the last)."""
-    def __init__(self, name, vars, goals, head, comment="", line=0, parts=None, fa=None):
-        self.name, self.vars, self.goals, self.head = name, vars, goals, head
-        self.comment, self.line, self.parts, self.fa = comment, line, parts, fa
+# a constructor: its variables, premises, and what it concludes of each argument; parts of a record: (field, comment, first goal, goal behind the last)
+Clause = namedtuple("Clause", "name vars goals head comment line parts fa", defaults=("", 0, (), None))
 
 
 class Pred:
     """A sentence at its arguments; the last `indices` of them are its indices. anon: made for a choice or a search."""
     count = 0
 
-    def __init__(self, name, args, indices, build, of=None, big=()):
+    def __init__(self, name, args, indices, build, of=None):
         Pred.count += 1
-        self.id, self.name, self.args, self.indices, self.build, self.of, self.big = Pred.count, name, args, indices, build, of, big
-        self.anon, self.endless, self.label, self.captured, self.made = of is None, False, name, 0, None
+        self.id, self.name, self.args, self.indices, self.build, self.of = Pred.count, name, args, indices, build, of
+        self.anon, self.endless, self.label, self.captured = of is None, False, name, 0
 
-    @property
+    @functools.cached_property
     def clauses(self):
-        if self.made is None:
-            self.made = self.build()
-        return self.made
+        return self.build()
 
 
 def is_fn(e, *ops):
@@ -72,6 +69,8 @@ def is_fn(e, *ops):
 def fn(op, args):
     """An operation, worked out as far as lists are written out."""
     a = args[0] if args else None
+    if op in ("/", "%", "*") and a == ("num", 0):
+        return a
     if op == "++" and is_fn(a, "∷", "++"):
         return fn(a[1], (a[2][0], fn("++", (a[2][1], args[1]))))
     if op == "++" and a == NIL:

@@ -32,18 +32,11 @@ class Seq:
     def __eq__(self, other):
         return self is other or isinstance(other, Seq) and self.n == other.n and (self.t is other.t or self.items() == other.items())
 
-    def __len__(self):
-        return self.n
-
     def __iter__(self):
         return iter(self.items())
 
     def items(self):
         return self.t[self.at:] if self.at else self.t
-
-    def __repr__(self):
-        shown = self.items() if self.n <= 16 else self.items()[:4]
-        return "[%s%s]" % (", ".join(brief(x) for x in shown), "" if self.n <= 16 else ", .. %d in all" % self.n)
 
 
 class Rec:
@@ -59,20 +52,12 @@ class Rec:
             made.d = dict(zip(names, values))
         return made
 
-    def __repr__(self):
-        return "{%s}" % "; ".join("%s = %s" % (k, brief(v)) for k, v in self.d.items())
-
-
-def rec(fields):
-    names = tuple(sorted(fields))
-    return Rec(names, tuple(fields[n] for n in names))
-
 
 def value(x):
     """A Python value as the sentences have it: lists become lists, dictionaries records."""
     if isinstance(x, (list, bytes, bytearray)):
         return Seq(tuple(map(value, x)))
-    return rec({k: value(v) for k, v in x.items()}) if isinstance(x, dict) else x
+    return Rec(*zip(*sorted((k, value(v)) for k, v in x.items()))) if isinstance(x, dict) else x
 
 
 def plain(x):
@@ -85,23 +70,20 @@ def plain(x):
 
 
 def brief(v):
-    if v is True or v is False:
-        return str(v).lower()
-    if isinstance(v, tuple) and v and isinstance(v[0], str):
-        return " ".join([v[0]] + [brief(x) for x in v[1:]])
-    return "(%s)" % ", ".join(map(brief, v)) if isinstance(v, tuple) else repr(v)
+    """A value in words, a long list cut short."""
+    if isinstance(v, Seq):
+        shown = map(brief, v.items() if v.n <= 16 else v.items()[:4])
+        return "[%s%s]" % (", ".join(shown), "" if v.n <= 16 else ", .. %d in all" % v.n)
+    if isinstance(v, Rec):
+        return "{%s}" % "; ".join("%s = %s" % (k, brief(x)) for k, x in v.d.items())
+    if isinstance(v, tuple):
+        return v[0] if isinstance(v[0], str) else "(%s)" % ", ".join(map(brief, v))
+    return str(v).lower()
 
 
 # ---- what the code calls: each as the kit's library has it on natural numbers and lists
 def getD(xs, i, default):
     return xs.t[xs.at + i] if i < xs.n else default
-
-
-def element(xs, i):
-    """The x with getD xs i x = x, where there is one."""
-    if i >= xs.n:
-        raise Floundered("any element past the end of a list")
-    return xs.t[xs.at + i]
 
 
 def tail(xs):
@@ -121,43 +103,12 @@ def mod(a, b):
     return a % b if b else a
 
 
-def exact(t, c):
-    """The x with c * x = t, or None."""
-    if c == t == 0:
-        raise Floundered("0 * x = 0")
-    return t // c if c and t % c == 0 else None
-
-
-def exponent(base, v):
-    """The k with base ^ k = v, or None."""
-    if base < 2:
-        raise Floundered("power of %d" % base)
-    k, p = 0, 1
-    while p < v:
-        p *= base
-        k += 1
-    return k if p == v else None
-
-
 def multiples(low, high, c, sign, m):
     """Each x from low to high (or on and on) with c + sign * x a multiple of m."""
     if m == 0:
         raise Floundered("multiple of 0")
     start = low + (-c * sign - low) % abs(m)
     return itertools.count(start, abs(m)) if high is None else range(start, high + 1, abs(m))
-
-
-def first(found):
-    for x in found:
-        return x
-    raise Floundered("nothing to bound by")
-
-
-def past_ends(holds, lengths):
-    """Where something holds past the ends of lists whatever the number, only the numbers below are searched."""
-    if not holds:
-        raise Floundered("past the lists it does not hold")
-    return max(lengths)
 
 
 def ranked(found, before):
