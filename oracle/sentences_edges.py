@@ -37,9 +37,29 @@ def past_last():
             dict(item, kinds=[9, 8], numbers=[TOP, 2 ** 16], units=[1])]
 
 
+def one_node(kind, number=0, **rest):
+    """Tables of one node."""
+    return dict(one_bank(), kinds=[kind], numbers=[number], values=[255], **rest)
+
+
+def small_tables():
+    """Tables that meet one rule, or just do not."""
+    made = [dict(one_bank(), **{n: []}) for n in ("starts", "flags", "operands", "numbers", "states")] + [one_bank(rows=0), one_bank(flags=16)]
+    made += [dict(one_bank(flags=n), bank_sizes=[8]) for n in (0, 1, 8, 9, 15)] + [one_bank(limit=n) for n in (0, 1, 3)]
+    made += [dict(one_bank(), fill=n) for n in (1, 2)] + [dict(one_bank(), closed=n) for n in (1, 2)]
+    made += [one_node(n) for n in range(12)] + [one_node(1, operands=[n]) for n in (0, 1)] + [one_node(n, states=[m]) for n in (2, 3, 10) for m in (1, 2, 3)]
+    made += [one_node(4, n, operands=[m]) for n in (7, 8, 9) for m in (0, 1)] + [one_node(k, 8, flags=[0]) for k in (2, 4, 7)]
+    known = dict(one_bank(2, limit=3), kinds=[4, 2], numbers=[8, 0], values=[255])
+    made += [dict(known, states=[n, 0]) for n in (0, 1, 2)] + [dict(known, kinds=[k, 2], states=[1, 0]) for k in (5, 6, 7, 8, 9)]
+    again = dict(one_bank(3, limit=1), kinds=[4, 9, 2], numbers=[8, 16, 0], values=[255])
+    return made + [dict(again, states=[1, n, 0]) for n in (0, 1)] + [dict(touching(), fill=1), dict(touching(), fill_bits=[0, 1, 0])]
+
+
 def table_edges():
-    counts = [one_bank(4096), one_bank(4097), one_bank(rows=16), one_bank(rows=17), one_bank(limit=255), one_bank(limit=256)]
-    return past_last() + [stored(0, 1), stored(1, 0)] + counts + [one_bank(flags=8), one_bank(flags=9), stored(0), stored(1), touching()]
+    counts = [one_bank(0, banks=n, flags=0) for n in (0, 16, 17)] + [one_bank(rows=16), one_bank(rows=17), one_bank(limit=255), one_bank(limit=256)]
+    counts += [one_bank(4096), one_bank(4097), stored(0), stored(1), stored(0, 1), stored(1, 0)]
+    late = dict(one_bank(514), kinds=[2] + [4] * 513, numbers=[1] * 514, values=[255])
+    return small_tables() + past_last() + [one_bank(flags=8), one_bank(flags=9), touching()] + counts + [late]
 
 
 def profile_edges():
@@ -58,7 +78,8 @@ def file_edges():
     starts = [encoded(one_bank(start=x), form) for form in (1, 2) for x in (2 ** 63 - 1, -2 ** 63, 2 ** 40, -2 ** 40)]
     cut = [of_length(n, form)[:-4] for n, form in ((100, 1), (100, 2), (600, 1), (600, 2), (65004, 1), (65540, 2))]       # the last field is missing
     whole = [of_length(n, form) for n, form in ((65000, 1), (65001, 1), (65536, 2), (65537, 2))]
-    return [dict(file=x, fill=0) for x in [[]] + starts + cut + whole]
+    aligned = dict(one_bank(2), kinds=[9, 2], numbers=[3, 0], aligns=[16], flags=[6])
+    return [dict(file=x, fill=0) for x in [[], encoded(aligned, 1), encoded(touching(), 2)] + starts + cut + whole]
 
 
 def shape(nodes):
