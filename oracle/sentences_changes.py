@@ -1,14 +1,15 @@
 #!/usr/bin/env python3
 """Changes to the sentences, by hand: each numeral one higher, each < and ≤ exchanged, each constructor and premise removed, one at a time, on drawn inputs.
 
-    oracle/sentences_changes.py FILE .. [--inputs N] [--seed S] [--call NAME ..] [--from L] [--to L] [--again ROWS] [--seconds S] [--try]
+    oracle/sentences_changes.py FILE .. [--inputs N] [--seed S] [--call NAME ..] [--from L] [--to L] [--every N] [--again ROWS] [--seconds S]
+        [--try]
 
 FILE is the name of a file of sentences (Part.antt). Each change is tried on the calls whose sentences reach the declaration that it is made to, and on N
 inputs of each (of calls with long lists a tenth) and then on its edges, until an answer differs. Prints a row for each change: `changed` an answer, with none
 or several outcomes too; `stops`: the changed sentences cannot be run; `long`: on some input they ran for more than S seconds of processor time; `listed`: no
 answer differs, and oracle/sentences_same.tsv says why it means the same; `same`: no answer differs, and nobody has said why; `apart`: no call that runs
 reaches it. Behind the rows of a file comes its line for docs/RUNNING-SENTENCES.md. --call leaves other calls out, --from and --to say which lines of a file
-are changed, --again that only those changes are tried that are `same` or `long` in the rows of an earlier run. Nothing is written. Status 1 says that a change
+are changed, --every that only every Nth change is tried, --again that only those changes are tried that are `same` or `long` in the rows of an earlier run. Nothing is written. Status 1 says that a change
 is `same`, or that one changed an answer though it is listed. --try reads the words only."""
 import multiprocessing
 import re
@@ -216,7 +217,7 @@ def run(asked):
         path, counted = path.resolve(), Counter()
         starts = sorted(d.line for d in library.file(path).defs.values())
         text = path.read_text(encoding="utf-8")
-        for line, what, text in list(changes(text)) + list(removals(path, text)):
+        for line, what, text in (list(changes(text)) + list(removals(path, text)))[::asked.every]:
             if asked.first <= line <= asked.last and (again is None or ("%s:%d" % (name, line), what) in again):
                 of = max((s for s in starts if s <= line), default=0)
                 said, by = verdict([p for p in pools if (path, of) in p.reached], path, text, asked.seconds, 1 if (name, what) in listed else 2)
@@ -237,6 +238,7 @@ def main():
     p.add_argument("--call", nargs="+", choices=list(CALLS), metavar="NAME")
     p.add_argument("--from", type=manners.some, default=1, dest="first", metavar="L")
     p.add_argument("--to", type=manners.some, default=10 ** 6, dest="last", metavar="L")
+    p.add_argument("--every", type=manners.some, default=1, metavar="N")
     p.add_argument("--again", metavar="ROWS")
     p.add_argument("--seconds", type=manners.some, default=10, metavar="S")
     p.add_argument("--try", action="store_true", dest="only")

@@ -79,7 +79,7 @@ def file_edges():
     cut = [of_length(n, form)[:-4] for n, form in ((100, 1), (100, 2), (600, 1), (600, 2), (65004, 1), (65540, 2))]       # the last field is missing
     whole = [of_length(n, form) for n, form in ((65000, 1), (65001, 1), (65536, 2), (65537, 2))]
     aligned = dict(one_bank(2), kinds=[9, 2], numbers=[3, 0], aligns=[16], flags=[6])
-    return [dict(file=x, fill=0) for x in [[], encoded(aligned, 1), encoded(touching(), 2)] + starts + cut + whole]
+    return [dict(file=x, fill=0) for x in [[], encoded(aligned, 1), encoded(dict(touching(), fill_bits=[0, 1, 0]), 2)] + starts + cut + whole]
 
 
 def shape(nodes):
@@ -205,7 +205,7 @@ def bad_lines():
     hexes += [record(1, 5, []), record(1, 5, [1]), record(4, 0, []), record(4, 0, [1]), record(4, 0, [1, 2, 3]), record(4, 1, [0, 0]), record(2, 0, [0, 0])]
     hexes += [record(3, 0, []), record(5, 0, [])]
     srecs = ["S", "s1", "S10", "S103", "S105", "SG", "S1G3", "T1", srec("S1", [2, 0]), srec("S1", [1]), srec("S0", [3, 0, 0]), srec("S0", [2, 0])]
-    srecs += [srec("S1", [3, 0, 0])[:-1]]
+    srecs += [srec("S1", [3, 0, 0])[:-1], record("S1", 6, [1])[:-2] + "00", record("S9", 0, [])[:-2] + "00"]
     srecs += [srec("S%d" % digit, body) for digit in range(10) for body in ([3, 0, 0], [4, 0, 0, 0], [5, 0, 0, 0, 0], [6, 0, 0, 0, 0, 7])]
     end, last = record(1, 0, []), record("S9", 0, [])
     made = [read_so(0, 0, x, "") for line in hexes for x in ([line, end], [record(0, 5, [1]), line, end], [line])]
