@@ -9,8 +9,8 @@ inputs of each (of calls with long lists a tenth) and then on its edges, until a
 or several outcomes too; `stops`: the changed sentences cannot be run; `long`: on some input they ran for more than S seconds of processor time; `listed`: no
 answer differs, and oracle/sentences_same.tsv says why it means the same; `same`: no answer differs, and nobody has said why; `apart`: no call that runs
 reaches it. Behind the rows of a file comes its line for docs/RUNNING-SENTENCES.md. --call leaves other calls out, --from and --to say which lines of a file
-are changed, --every that only every Nth change is tried, --again that only those changes are tried that are `same` or `long` in the rows of an earlier run. Nothing is written. Status 1 says that a change
-is `same`, or that one changed an answer though it is listed. --try reads the words only."""
+are changed, --every that only every Nth change is tried, --again that only those are tried that are `same` or `long` in the rows of an earlier run. Nothing
+is written. Status 1 says that a change is `same`, or that one changed an answer though it is listed. --try reads the words only."""
 import multiprocessing
 import re
 import signal
