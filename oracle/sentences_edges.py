@@ -201,10 +201,10 @@ def srec(front, body):
 
 def bad_lines():
     """Lines that are bad in one thing, alone and behind a good one."""
-    hexes = [":", ":1", ":10", ":G000000000", ":0G00000001", ":0000000001", ":0000000000", "x", record(0, 5, [1])[:-1] + "G", record(1, 0, [5])]
+    hexes = [":", ":1", ":10", ":G000000000", ":0G00000001", ":0g00000001", ":0000000001", ":0000000000", "x", record(0, 5, [1])[:-1] + "G", record(1, 0, [5])]
     hexes += [record(1, 5, []), record(1, 5, [1]), record(4, 0, []), record(4, 0, [1]), record(4, 0, [1, 2, 3]), record(4, 1, [0, 0]), record(2, 0, [0, 0])]
     hexes += [record(3, 0, []), record(5, 0, [])]
-    srecs = ["S", "s1", "S10", "S103", "S105", "SG", "S1G3", "T1", srec("S1", [2, 0]), srec("S1", [1]), srec("S0", [3, 0, 0]), srec("S0", [2, 0])]
+    srecs = ["S", "s1", "S10", "S103", "S105", "SG", "S1G3", "S1g3", "T1", srec("S1", [2, 0]), srec("S1", [1]), srec("S0", [3, 0, 0]), srec("S0", [2, 0])]
     srecs += [srec("S1", [3, 0, 0])[:-1], record("S1", 6, [1])[:-2] + "00", record("S9", 0, [])[:-2] + "00"]
     srecs += [srec("S%d" % digit, body) for digit in range(10) for body in ([3, 0, 0], [4, 0, 0, 0], [5, 0, 0, 0, 0], [6, 0, 0, 0, 0, 7])]
     end, last = record(1, 0, []), record("S9", 0, [])
