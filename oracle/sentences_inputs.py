@@ -308,7 +308,7 @@ def inputs(call, seed, count):
 
 
 def wide(call, seed, count):
-    """The same, and among them numbers past what the header's types hold: the sentences speak of them too. Behind them edges that chance does not find."""
+    """The same, and among them numbers past what the header's types hold: the sentences speak of them too."""
     for i, given in enumerate(inputs(call, seed, count)):
         rng, names = Random("wide %s %d" % (seed, i)), [n for n in ("units", "bank_sizes", "bank_offsets", "aligns", "numbers") if given.get(n)]
         if names and i % 8 == 0:
@@ -316,8 +316,6 @@ def wide(call, seed, count):
             given[name][rng.randrange(len(given[name]))] = 65536 if name == "units" else TOP + 1
         sharper = crowded if "kinds" in given else lines if "format" in given else None
         yield dict(given, **sharper(rng)) if sharper and i % 2 else given
-    for edge in EDGES.get(call, lambda: ())():
-        yield dict(MAKE[call](Random(call)), **edge)
 
 
 def one_bank(nodes=1, rows=1, limit=2, flags=2, start=0, banks=1):
@@ -355,49 +353,6 @@ def lines(rng):
         at = rng.randrange(len(made))
         made[at] = made[at][:rng.randrange(len(made[at]) + 1)] + rng.choice(("", "", "0", "G"))
     return dict(format=kind, load=0, text=list(("\n".join(made) + "\n").encode()))
-
-
-def stored(size):
-    """Tables of one item more than a store has room for: intervals, or marks."""
-    return dict(one_bank(513), kinds=[4] * 513, numbers=[size] * 513, values=[255])
-
-
-def of_length(n, form, **tables_):
-    """A layout file of so many bytes."""
-    t = one_bank(**tables_)
-    return encoded(dict(t, values=[7] * (n - len(encoded(t, form)))), form)
-
-
-def touching():
-    """A filled bank of four bits, and behind it one of a single bit whose fill bit is one: the image ends before it."""
-    return dict(one_bank(0), units=[8, 1, 1], starts=[0] * 3, bank_sizes=[0, 4, 1], bank_offsets=[0, 0, 4], aligns=[0] * 3, flags=[0, 11, 11],
-                fill_bits=[0, 0, 1])
-
-
-def table_edges():
-    return [one_bank(4096), one_bank(4097), one_bank(rows=16), one_bank(rows=17), one_bank(limit=255), one_bank(limit=256), one_bank(flags=8),
-            one_bank(flags=9), stored(0), stored(1), touching()]
-
-
-def file_edges():
-    starts = [encoded(one_bank(start=x), form) for form in (1, 2) for x in (2 ** 63 - 1, -2 ** 63, 2 ** 40, -2 ** 40)]
-    cut = [of_length(n, form)[:-4] for n, form in ((100, 1), (100, 2), (600, 1), (600, 2), (65004, 1), (65540, 2))]       # the last field is missing
-    return [dict(file=x, fill=0) for x in starts + cut + [of_length(n, form) for n, form in ((65000, 1), (65001, 1), (65536, 2), (65537, 2))]]
-
-
-def convert_edges():
-    files = [encoded(one_bank(n), 1) for n in (4095, 4096)] + [encoded(one_bank(rows=r), form) for r in (16, 17) for form in (1, 2)]
-    files += [of_length(n, 2, banks=2, flags=0) for n in (65005, 65006, 65007)] + [encoded(one_bank(0, banks=n, flags=0), 1) for n in (2423, 2424, 2425)]
-    return [dict(file=x, out=[0] * 65536) for x in files]
-
-
-def span_edges():
-    bits = dict(offsets=[0, 1, 8, 16], sizes=[1, 1, 1, 1], block_offsets=[0] * 9, block_sizes=[0] * 9)
-    return [bits] + [dict(offsets=[NONE] * n, sizes=[0] * n) for n in (4096, 4097)]
-
-
-EDGES = {"dk_build": table_edges, "dk_profile": table_edges, "dk_form": file_edges, "dk_to_form2": convert_edges, "dk_to_form1": convert_edges,
-         "dk_blocks": span_edges}
 
 
 if __name__ == "__main__":
