@@ -6,8 +6,8 @@
 The damaged printer prints the term of the exported calls, and a C compiler compiles that with the driver over all calls (portable/driver.h). A damage is
 seen where the printer refuses, where the compiler refuses or warns, or where the driver ends or answers otherwise than over portable/denkumari.c, which is
 held to the proved archive (portable/matrix). One that prints what means the same is listed here with the reason. Prints a line for each, and how many were
-seen, which docs/PORTABLE.md tells; ends with 1 where one is neither seen nor listed. NAME is a damage by its number, all of them unless said; FILE has what
-`rt mir` prints, which is asked for otherwise, and FOLDER has the driver (default: portable)."""
+seen; ends with 1 where one is neither seen nor listed. NAME is a damage by its number, all of them unless said; FILE has what `rt mir` prints, which is asked
+for otherwise, and FOLDER has the driver (default: portable)."""
 
 import shutil
 import subprocess

@@ -58,9 +58,9 @@ class Program:
                 must(name in terms and name.split('::')[0] not in KIT, f'the function {name}: it is the kit\'s, or there is none')
                 f = self.functions[name] = Function(terms[name])
                 self.types.add(f.types)
-                calls = [s.name for s in every(f.body) if s.kind == 'call']
-                self.callers.update(calls)
-                todo += calls
+                self.called[name] = [s.name for s in every(f.body) if s.kind == 'call']
+                self.callers.update(self.called[name])
+                todo += self.called[name]
         self.printers, self.lent = {name: Printer(f, self) for name, f in self.functions.items()}, {}
         for Unknown.where, printer in self.printers.items():
             self.lent[Unknown.where] = printer.prepare()
@@ -111,7 +111,7 @@ class Program:
         if name not in texts:
             Unknown.where = name
             texts[name] = self.printers[name].function()
-            for other in sorted(self.called.get(name, ())):
+            for other in sorted(self.functions.keys() & self.called[name]):
                 self.ordered(other, texts, order)
             order[name] = comment(name, self.names.of(self.functions[name])[0][2]) + texts[name]
 

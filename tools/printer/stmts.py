@@ -159,7 +159,6 @@ class Printer(Exprs):
             first = cast(f'uint{max(32, t.bits)}_t', parts[0]) if parts[0].literal and parts[1].literal else parts[0]
             return self.store(out, s, to, narrowed(f'{first.at(left)} {sign} {parts[1].at(right)}', strength, t, *parts))
         must(len(parts) == g.params, f'a call of {s.name} with {len(parts)} arguments')
-        self.program.called.setdefault(self.f.name, set()).add(g.name)
         given = [self.argument(self.fit(e, t), i in self.program.lent[g.name], pure) for i, (e, t) in enumerate(zip(parts, g.locals[1:]), 1)]
         e = made(f'{symbol(g.name)}({", ".join(given)})', 1, g.locals[0], *parts)
         e.memory |= any(t != BOOL and not isinstance(t, Int) for t in g.locals[1:g.params + 1])
