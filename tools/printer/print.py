@@ -69,7 +69,7 @@ class Program:
         return self.names.of(f)[0][0]
 
     def is_large(self, t):
-        """Whether a struct has more bytes than two registers: compilers answer it in memory, and where it is only read it is lent."""
+        """Whether a struct has more bytes than two registers: where it is only read it is lent."""
         return isinstance(t, Named) and self.types.size(t)[0] > 16
 
     def is_inline(self, f):
