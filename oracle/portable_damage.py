@@ -5,9 +5,9 @@
 
 The damaged printer prints the term of the exported calls, and a C compiler compiles that with the driver over all calls (portable/driver.h). A damage is
 seen where the printer refuses, where the compiler refuses or warns, or where the driver ends or answers otherwise than over portable/denkumari.c, which is
-held to the proved archive (portable/matrix). One that prints what means the same is listed here with the reason. Prints the table of docs/PORTABLE.md; ends
-with 1 where a damage is not seen and not listed. NAME is a damage by its number, all of them unless said; FILE has what `rt mir` prints, which is asked for
-otherwise, and FOLDER has the driver (default: portable)."""
+held to the proved archive (portable/matrix). One that prints what means the same is listed here with the reason. Prints a line for each, and how many were
+seen; ends with 1 where one is neither seen nor listed. NAME is a damage by its number, all of them unless said; FILE has what `rt mir` prints, which is asked
+for otherwise, and FOLDER has the driver (default: portable)."""
 
 import shutil
 import subprocess
@@ -17,11 +17,13 @@ from pathlib import Path
 import manners
 
 ROOT = manners.ROOT
+COMPILER = next((name for name in ("clang", "cc") if shutil.which(name)), "cc")     # clang reads a line more than gcc: apart_helper's
 WARNINGS = ["-Wall", "-Wextra", "-Wconversion", "-Wshadow", "-pedantic", "-Werror"]
 
 # What is damaged; the file of tools/printer; the text there; the text in its place; why it means the same, where it does.
 DAMAGES = [
-    ("a switch's arm loses all keys but its first", "term", "for key in items(x[1])], body", "for key in items(x[1])][:1], body", ""),
+    ("a switch's arm loses all keys but its first", "term", "for key in x[1]], body", "for key in x[1][:1]], body", ""),
+    ("a list of the logic loses what is behind its first two members", "term", "[done[1], *done[2]] if", "[done[1], *done[2][:1]] if", ""),
     ("the default arm is empty", "term", "yield [], body_of(x[1])", "yield [], Body()", ""),
     ("what may be lent to be written and what may be read are exchanged", "term", "Slice(pointer[2] == 'mut'", "Slice(pointer[2] != 'mut'", ""),
     ("a loop's live locals by one turn", "flow", "while after != top:", "for _ in range(1):", ""),
@@ -96,6 +98,7 @@ DAMAGES = [
     ("an array is filled but for its last element", "stmts", "each < {s.op}u;", "each < {s.op - 1}u;", ""),
     ("a local is declared in a loop that reads what the turn before left", "lines", "or sets(inner[0], name) and not", "or not",
      "a local that a loop alone names is set in each turn before it is read: otherwise the first turn would read it unset"),
+    ("a struct is copied with its fields in the wrong order", "print", "for field in self.types.fields(t))", "for field in self.types.fields(t)[::-1])", ""),
     ("the fields of an answer are told in the wrong order", "print", "zip(structs[struct], self.types.fields(t), parts)",
      "zip(structs[struct][::-1], self.types.fields(t), parts)", ""),
 ]
@@ -116,7 +119,7 @@ class Room:
                 raise manners.Stop(f"{driver}/driver{part}.c is not compiled: --driver names the driver's folder")
 
     def compile(self, source, words):
-        command = ["cc", "-std=c99", "-I", ROOT / "include", *words]
+        command = [COMPILER, "-std=c99", "-I", ROOT / "include", *words]
         return subprocess.run(command + [source], capture_output=True, check=False).returncode == 0
 
     def answers(self, source):
@@ -168,7 +171,7 @@ def main():
     for name in asked.names:
         if name > len(DAMAGES):
             parser.error(f"there is no damage {name}")
-    missed = 0
+    missed = seen = same = 0
     with manners.room() as folder:
         term = asked.term
         if term is None:
@@ -185,8 +188,9 @@ def main():
         for number, damage in enumerate(DAMAGES, 1):
             if not asked.names or number in asked.names:
                 how = room.seen(damage, good, wanted)
-                missed += not how and not damage[4]
+                missed, seen, same = missed + (not how and not damage[4]), seen + bool(how), same + (not how and bool(damage[4]))
                 print(f"| {number} | {damage[0]} | {how or (damage[4] and 'means the same: ' + damage[4]) or 'NOT SEEN'} |", flush=True)
+    print(f"{seen} seen, {same} mean the same, {missed} not seen")
     sys.exit(1 if missed else 0)
 
 

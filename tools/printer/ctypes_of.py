@@ -80,6 +80,10 @@ class Types:
         """The names of an enum's cases."""
         return self.names.parts(t.name, len(self.shape(t)[1]), 'V')
 
+    def is_nested(self, t):
+        """Whether a type is a struct with structs in it, of at most 32 bytes."""
+        return isinstance(t, Named) and self.shape(t)[0] == 'fields' and any(isinstance(part, Named) for part in self.shape(t)[1]) and self.size(t)[0] <= 32
+
     def size(self, t):
         """Bytes and alignment in the logic's own layout, which counts offsets in bytes. They make such an offset the number of an element, and tell which
         structs are large; C's own layout is the compiler's."""

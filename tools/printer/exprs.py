@@ -83,17 +83,17 @@ def address(e):
 
 class Exprs:
     """A function's expressions. `pending` has the locals whose value is not yet set, since it may be put where the local is read; `lent` are the parameters
-    that are behind a pointer in C, `slots` the locals whose address is taken, `pointers` the types of locals that the term calls pointers."""
+    that are behind a pointer in C, `slots` the locals whose address is taken."""
 
     def __init__(self, f, program):
-        self.f, self.program, self.types, self.pending, self.lent, self.pointers = f, program, program.types, {}, set(), {}
+        self.f, self.program, self.types, self.pending, self.lent = f, program, program.types, {}, set()
 
     def local(self, n):
         """A local by its name; what a parameter points to, where the value is lent."""
         name, t = self.name[n], self.f.locals[n]
         if n in self.lent:
             return Expr('*' + name, 2, t, frozenset([n]), place=True, steady=True, known=('lent', name))
-        return Expr(name, 0, self.pointers[n] if t == PTR else t, frozenset([n]), n in self.slots, place=True)
+        return Expr(name, 0, t, frozenset([n]), n in self.slots, place=True)
 
     def place(self, place):
         """A place, step by step."""
@@ -143,10 +143,7 @@ class Exprs:
         return replace(cast('uint64_t', e, Int(64)), known=('length', e)) if e.type == SIZE else e
 
     def fit(self, e, t):
-        """As a value of type t: what is lent to be written may be read, and a pointer into a slice is a reference."""
-        if isinstance(t, Slice) and e.type != t:
-            must(e.type == Slice(True, t.of) and not t.mut and e.place, f'{e.type} where {t} is wanted')
-            return made(f'({self.types.c(t)}){{ {e.at(1)}.ptr, {e.at(1)}.len }}', 1, t, e)
+        """As a value of type t: a pointer into a slice is a reference, and what it may write to may be read."""
         if isinstance(t, Ref) or t == PTR:
             if e.has('indexed'):
                 base, i = e.has('indexed')

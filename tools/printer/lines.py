@@ -62,13 +62,11 @@ def laid(lines, indent):
         if isinstance(line, str):
             out += wrapped(line, indent)
             continue
-        body, heads = laid(line.lines, indent + 4), [getattr(one, 'head', '')[:4] for one in line.lines]
+        body = laid(line.lines, indent + 4)
         if not line.braced:
             out += f'{" " * indent}{line.head}\n{body}'
         elif line.head != 'else':
             out += f'{wrapped(line.head + " {", indent)}{body}{" " * indent}}}\n'
-        elif heads in (['if ('], ['if (', 'else']):
-            out = f'{out[:-1]} else {laid(line.lines, indent).lstrip()}'
         else:
             out = f'{out[:-1]} else {{\n{body}{" " * indent}}}\n'
     return out

@@ -18,6 +18,11 @@ from term import ROOT, Array, Function, Named, Ref, Slice, Unknown, functions, m
 
 sys.setrecursionlimit(100_000)
 KIT = ('io', 'os', 'libc', 'std', 'core', 'alloc')
+# gcc up to 12 makes vectors at -O2 only where it knows a loop's length; the length of what a caller lends it never knows.
+VECTORS = '''#if defined(__GNUC__) && !defined(__clang__) && defined(__OPTIMIZE__) && !defined(__OPTIMIZE_SIZE__)
+#pragma GCC optimize ("tree-vectorize", "vect-cost-model=dynamic")
+#endif
+'''
 INCLUDES = '#include <stdbool.h>\n#include <stddef.h>\n#include <stdint.h>\n'
 HEAD = '''/* {what}. Printed by tools/portable from the term that the proofs
  * speak of; not to be edited. What follows this comment has the sum `text`, and what it was printed from has the sum
@@ -39,8 +44,6 @@ def comment(name, text):
 
 
 class Program:
-    LARGE = 16                                          # a struct of more bytes that a function only reads is lent
-
     def __init__(self, texts, roots, names):
         """`roots` names the functions that are printed, with all that they call, by their whole path or the end of it."""
         terms = functions(texts)
@@ -55,9 +58,9 @@ class Program:
                 must(name in terms and name.split('::')[0] not in KIT, f'the function {name}: it is the kit\'s, or there is none')
                 f = self.functions[name] = Function(terms[name])
                 self.types.add(f.types)
-                calls = [s.name for s in every(f.body) if s.kind == 'call']
-                self.callers.update(calls)
-                todo += calls
+                self.called[name] = [s.name for s in every(f.body) if s.kind == 'call']
+                self.callers.update(self.called[name])
+                todo += self.called[name]
         self.printers, self.lent = {name: Printer(f, self) for name, f in self.functions.items()}, {}
         for Unknown.where, printer in self.printers.items():
             self.lent[Unknown.where] = printer.prepare()
@@ -65,13 +68,20 @@ class Program:
     def params(self, f):
         return self.names.of(f)[0][0]
 
+    def is_large(self, t):
+        """Whether a struct has more bytes than two registers: where it is only read it is lent."""
+        return isinstance(t, Named) and self.types.size(t)[0] > 16
+
+    def is_inline(self, f):
+        return self.callers[f.name] > 1 or any(s.kind == 'loop' for s in every(f.body))
+
     def head(self, f, root=False):
         """A function's first line. What a pointer points to nobody else writes to while the function runs: it is a value that is lent to be read, or what
         the sources' rules of borrowing lend to this function alone. So every pointer is `restrict`."""
-        inline = self.callers[f.name] > 1 or any(s.kind == 'loop' for s in every(f.body))
         types = [f'const {self.types.c(t)} *' if i in self.lent[f.name] else self.types.c(t) for i, t in enumerate(f.locals[1:f.params + 1], 1)]
         params = ', '.join(pad(t) + 'restrict ' * t.endswith('*') + name for t, name in zip(types, self.params(f))) or 'void'
-        return wrapped(f'{"static " * (not root)}{"inline " * (inline and not root)}{pad(self.types.c(f.locals[0]))}{symbol(f.name)}({params})', 0).rstrip()
+        kind = '' if root else 'static inline ' if self.is_inline(f) else 'static '
+        return wrapped(f'{kind}{pad(self.types.c(f.locals[0]))}{symbol(f.name)}({params})', 0).rstrip()
 
     def at_helper(self, t):
         """The function that steps to an element."""
@@ -80,6 +90,14 @@ class Program:
         self.helpers[name] = (f'/* The i-th element behind p, which may be any pointer where the length is 0, NULL too. */\n'
                               f'static inline {c}{name}({c}p, uint64_t i)\n{{\n    return i == 0u ? p : p + i;\n}}\n')
         return name
+
+    def apart_helper(self, t):
+        """The function that copies a struct by its fields."""
+        c, fields = self.types.c(t), ', '.join(f'x.{field}' for field in self.types.fields(t))
+        self.helpers[f'apart_{c}'] = ('/* x; for clang by its fields, so that answers which are put into a loop stay in registers. */\n#ifdef __clang__\n'
+                                      f'static inline {c} apart_{c}({c} x)\n{{\n    return ({c}){{ {fields} }};\n}}\n'
+                                      f'#else\n#define apart_{c}(x) (x)\n#endif\n')
+        return f'apart_{c}'
 
     def ones_helper(self, t):
         """The function that counts ones."""
@@ -93,7 +111,7 @@ class Program:
         if name not in texts:
             Unknown.where = name
             texts[name] = self.printers[name].function()
-            for other in sorted(self.called.get(name, ())):
+            for other in sorted(self.functions.keys() & self.called[name]):
                 self.ordered(other, texts, order)
             order[name] = comment(name, self.names.of(self.functions[name])[0][2]) + texts[name]
 
@@ -106,7 +124,7 @@ class Program:
             order[name] = re.sub('^static (inline )?', '', order[name], count=1, flags=re.M)
         tops = [self.export(*one) for one in exports]
         blocks = ['\n'.join(self.types.out) + '\n', *(self.helpers[name] for name in sorted(self.helpers)), *order.values(), *tops]
-        return f'{INCLUDES}#include "{include}"\n\n' + '\n'.join(blocks)
+        return f'{VECTORS}{INCLUDES}#include "{include}"\n\n' + '\n'.join(blocks)
 
     def header(self, guard):
         """A header for the roots; what it declares the file does not declare again."""

@@ -8,7 +8,7 @@ from ctypes_of import pad, symbol
 from exprs import BINARY, Exprs, address, cast, compared, made, narrowed, negated, widened
 from flow import live, may_write, sets, spread, taken, unblock, written_behind
 from lines import Nest, declare, laid, names
-from term import BOOL, PTR, UNIT, Array, Copy, Int, Named, Place, Slice, manners, must
+from term import BOOL, PTR, UNIT, Array, Copy, Int, Place, Slice, manners, must
 
 WRAPPING = re.compile(r'std::num::wrapping_(add|sub)_u(\d+)')   # the kit's, by their meaning and not by their bodies
 
@@ -44,8 +44,8 @@ class Printer(Exprs):
     def is_only_read(self, n, times):
         """Whether a local is a large struct that is set so many times, and that nothing else writes to."""
         same = {n} | {m for m in self.alias if self.alias[m] == n}
-        return isinstance(self.f.locals[n], Named) and self.types.size(self.f.locals[n])[0] > self.program.LARGE \
-            and sum(sets(self.body, m) for m in same) == times and not any(written_behind(self.f, self.body, m) for m in same & self.slots)
+        return self.program.is_large(self.f.locals[n]) and sum(sets(self.body, m) for m in same) == times \
+            and not any(written_behind(self.f, self.body, m) for m in same & self.slots)
 
     def function(self):
         """The function's text."""
@@ -53,8 +53,8 @@ class Printer(Exprs):
         if lines[-1:] == ['return;']:
             lines.pop()
         for n, t in enumerate(self.f.locals):
-            if (n == 0 or n > self.f.params and n not in self.alias) and (t != PTR or n in self.pointers) and t != UNIT:
-                c = self.types.c(self.pointers.get(n, t))
+            if (n == 0 or n > self.f.params and n not in self.alias) and t not in (PTR, UNIT):
+                c = self.types.c(t)
                 declare(lines, self.name[n], f'const {c} *' if n in self.lent else pad(c), t == BOOL or isinstance(t, Int))
         unused = [f'(void){name};' for name in self.program.params(self.f) if not any(names(line, name) for line in lines)]
         return f'{self.program.head(self.f)}\n{{\n{laid(unused + lines, 4)}}}\n'
@@ -62,8 +62,7 @@ class Printer(Exprs):
     def set(self, out, n):
         """Sets a local to its pending value."""
         e = self.fit(self.pending.pop(n), self.f.locals[n])
-        if self.f.locals[n] == PTR:
-            must(self.pointers.setdefault(n, e.type) == e.type, 'a pointer of two types')
+        must(self.f.locals[n] != PTR, 'a pointer that is not used at once')
         if e.place and e.steady and self.is_only_read(n, 1):     # a part of what is lent is lent too
             self.lent.add(n)
         out.append(f'{self.name[n]} = {address(e) if n in self.lent else e.text};')
@@ -100,7 +99,10 @@ class Printer(Exprs):
     def do_return(self, out, s):
         if self.f.locals[0] == UNIT:
             return out.append('return;')
-        return out.append(f'return {self.fit(self.value(s.reads[0]), self.f.locals[0]).text};')
+        e, t = self.fit(self.value(s.reads[0]), self.f.locals[0]), self.f.locals[0]
+        if e.has('call') and self.program.is_inline(self.f) and self.types.is_nested(t):
+            e = made(f'{self.program.apart_helper(t)}({e.text})', 1, t, e)
+        return out.append(f'return {e.text};')
 
     def do_exit(self, out, s):
         """A loop's `continue` or `break`."""
@@ -113,8 +115,7 @@ class Printer(Exprs):
         """Makes ready for a statement that sets a place: the place, or None for a local that can wait."""
         n, steps = s.to.local, s.to.steps
         waits = not steps and n not in self.slots and s.value != 'repeat'
-        if steps and not s.to.indirect and n in self.pending:
-            self.set(out, n)
+        must(not steps or s.to.indirect or n not in self.pending, 'a part that is set before the whole')
 
         def changes(_, e):
             return not pure and e.memory or not waits and (e.memory if s.to.indirect else n in e.uses or n in self.slots and e.memory)
@@ -158,11 +159,10 @@ class Printer(Exprs):
             first = cast(f'uint{max(32, t.bits)}_t', parts[0]) if parts[0].literal and parts[1].literal else parts[0]
             return self.store(out, s, to, narrowed(f'{first.at(left)} {sign} {parts[1].at(right)}', strength, t, *parts))
         must(len(parts) == g.params, f'a call of {s.name} with {len(parts)} arguments')
-        self.program.called.setdefault(self.f.name, set()).add(g.name)
         given = [self.argument(self.fit(e, t), i in self.program.lent[g.name], pure) for i, (e, t) in enumerate(zip(parts, g.locals[1:]), 1)]
         e = made(f'{symbol(g.name)}({", ".join(given)})', 1, g.locals[0], *parts)
         e.memory |= any(t != BOOL and not isinstance(t, Int) for t in g.locals[1:g.params + 1])
-        e.calls, e.steady = e.calls or not pure, False
+        e.calls, e.steady, e.known = e.calls or not pure, False, ('call', g)
         return self.store(out, s, to, e)
 
     def argument(self, e, lent, pure):
@@ -187,11 +187,9 @@ class Printer(Exprs):
         """An `if` of two lists of lines."""
         if not yes:
             e, yes, no = negated(e), no, yes
-        if not yes:
-            out += [f'(void){e.text};'] if e.calls else []
-        else:
-            out.append(Nest(f'if ({e.text})', yes, e))
-            out += no if no and is_jump(yes[-1]) else [Nest('else', no)] if no else []
+        must(yes, 'a branch to nothing')
+        out.append(Nest(f'if ({e.text})', yes, e))
+        out += no if no and is_jump(yes[-1]) else [Nest('else', no)] if no else []
 
     def do_switch(self, out, s):
         e = self.tested(out, s)
@@ -214,14 +212,11 @@ class Printer(Exprs):
         self.scopes.append((s.kind, s.live))
         lines = self.lines(body, s.live)
         self.scopes.pop()
-        if lines[-1:] == ['continue;']:
-            lines.pop()
         if s.kind == 'block':
             out += lines
-        elif lines and getattr(lines[0], 'test', None) and lines[0].lines == ['break;'] and getattr((lines + [''])[1], 'head', '') != 'else':
-            out.append(Nest(f'while ({negated(lines[0].test).text})', lines[1:]))
         else:
-            out.append(Nest('for (;;)', lines))
+            must(isinstance(lines[0], Nest) and lines[0].lines == ['break;'], 'a loop that does not begin with its test')
+            out.append(Nest(f'while ({negated(lines[0].test).text})', lines[1:]))
 
     do_loop = do_block
 

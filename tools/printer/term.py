@@ -54,25 +54,16 @@ class Stmt:
 
 
 def parse(text):
-    """The text as lists of lists; a name in quotes keeps the first."""
+    """The text as lists of lists, those of the logic among them; a name in quotes keeps the first."""
     stack = [[]]
     for bracket, name, word in re.findall(r'([()])|("[^"]*)"|([^\s()"]+)', text):
         if bracket == '(':
             stack.append([])
         else:
             done = stack.pop() if bracket else name or word
-            stack[-1].append(done)
+            listed = done[0] in ('lcons', 'tcons', 'ttcons')
+            stack[-1].append([] if done in ('lnil', 'tnil', 'ttnil') else [done[1], *done[2]] if listed else done)
     return stack[0]
-
-
-def items(x):
-    """The members of a list of the logic."""
-    out = []
-    while x not in ('lnil', 'tnil', 'ttnil'):
-        must(x[0] in ('lcons', 'tcons', 'ttcons'), f'a list: {x[0]}')
-        out.append(x[1])
-        x = x[2]
-    return out
 
 
 def type_of(x):
@@ -85,15 +76,15 @@ def type_of(x):
             return Ref(x[2] == 'mut', type_of(to))
         case ['tyArray', of, ['lenLit', count]]:
             return Array(type_of(of), int(count))
-        case ['tyNamed', ['pair', name, 'lnil']]:
+        case ['tyNamed', ['pair', name, []]]:
             return Named(name[1:])
-        case ['tyStruct', '"&[]', ['tcons', ['tyRef', _, 'mut' | 'imm', _] as pointer, ['tcons', ['tyInt', '64'], 'tnil']]]:
+        case ['tyStruct', '"&[]', [['tyRef', _, 'mut' | 'imm', _] as pointer, ['tyInt', '64']]]:
             return Slice(pointer[2] == 'mut', type_of(pointer[3]))
     raise Unknown(f'the type {x}')
 
 
 def place_of(x):
-    steps = tuple((kind, type_of(of) if kind == 'deref' else int(of)) for kind, of in items(x[2]))
+    steps = tuple((kind, type_of(of) if kind == 'deref' else int(of)) for kind, of in x[2])
     must(x[0] == 'place' and all(kind in ('deref', 'field', 'variant') for kind, _ in steps), f'the place {x}')
     return Place(int(x[1]), steps)
 
@@ -117,7 +108,7 @@ def value_of(x):
         case ['op1' | 'op2' as kind, op, *parts]:
             return kind, op, parts
         case ['aggregate', parts]:
-            return 'aggregate', None, items(parts)
+            return 'aggregate', None, parts
         case ['repeat', part, ['lenLit', count] | count]:
             return 'repeat', int(count), [part]
         case ['addrOf', place]:
@@ -133,7 +124,7 @@ def statement(x):
             kind, op, parts = value_of(value)
             return Stmt('assign', map(operand, parts), place_of(to), value=kind, op=op)
         case ['call', ['direct', ['fnRef', name]], parts, to]:
-            return Stmt('call', map(operand, items(parts)), place_of(to), name=name[1:])
+            return Stmt('call', map(operand, parts), place_of(to), name=name[1:])
         case ['if', test, yes, no]:
             return Stmt('if', [operand(test)], None, [body_of(yes), body_of(no)])
         case ['block' | 'loop' as kind, body]:
@@ -149,7 +140,7 @@ def statement(x):
 def arms_of(x):
     """A switch's arms, each with its keys; the default's keys are empty."""
     while x[0] == 'arm':
-        yield [int(key) for key in items(x[1])], body_of(x[2])
+        yield [int(key) for key in x[1]], body_of(x[2])
         x = x[3]
     must(x == 'noDefault' or x[0] == 'default', f'the arm {x}')
     if x != 'noDefault':
@@ -170,11 +161,11 @@ class Function:
 
     def __init__(self, x):
         match x:
-            case ['fn-def', name, ['fnItem', _, 'lnil', params, local, body], *types]:
-                self.name, self.params, self.locals, self.body = name[1:], int(params), [type_of(one[1]) for one in items(local)], body_of(body)
-                shapes = {pair[1][1:]: pair[2] for pair in (items(types[0]) if types else [])}
+            case ['fn-def', name, ['fnItem', _, [], params, local, body], *types]:
+                self.name, self.params, self.locals, self.body = name[1:], int(params), [type_of(one[1]) for one in local], body_of(body)
+                shapes = {pair[1][1:]: pair[2] for pair in (types[0] if types else [])}
                 must(all(kind in ('fields', 'variants') for kind, _ in shapes.values()), f'the types of {name}')
-                self.types = {name: (kind, [type_of(part) if kind == 'fields' else [type_of(one) for one in items(part)] for part in items(parts)])
+                self.types = {name: (kind, [type_of(part) if kind == 'fields' else [type_of(one) for one in part] for part in parts])
                               for name, (kind, parts) in shapes.items()}
             case _:
                 raise Unknown(f'the function {x[1]}')
@@ -186,7 +177,7 @@ def functions(texts):
     for text in texts:
         program = parse(text)
         must(len(program) == 3 and program[0] == 'program', 'a text that is no program')
-        for term in items(program[1]):
+        for term in program[1]:
             must(found.setdefault(term[1][1:], term) == term, f'two functions of the name {term[1]}')
     return found
 
