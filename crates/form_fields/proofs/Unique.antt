@@ -3,12 +3,8 @@ use Prim.Native.Nat.{ℕ}
 use mathlib.Core.Path.{ap₂}
 use Rattle.refusal.specs.Laws.Outcome.{OneOutcome}
 use Rattle.refusal.specs.Laws.Pick.{determined}
-use Rattle.form_fields.proofs.read16.Kinds as read16-kinds
-use Rattle.form_fields.proofs.read16.Reads as read16-reads
-use Rattle.form_fields.proofs.read32.Kinds as read32-kinds
-use Rattle.form_fields.proofs.read32.Reads as read32-reads
-use Rattle.form_fields.proofs.read64.Kinds as read64-kinds
-use Rattle.form_fields.proofs.read64.Reads as read64-reads
+use Rattle.form_fields.proofs.word_of.Kinds as word-of-kinds
+use Rattle.form_fields.proofs.word_of.Reads as word-of-reads
 use Rattle.form_fields.proofs.is_set.Kinds as is-set-kinds
 use Rattle.form_fields.proofs.is_set.Reads as is-set-reads
 use Rattle.form_fields.proofs.option.Kinds as option-kinds
@@ -24,14 +20,8 @@ use Rattle.form_fields.proofs.read_form2.Reads as read-form2-reads
 use Rattle.form_fields.proofs.read_shape.Kinds as read-shape-kinds
 use Rattle.form_fields.proofs.read_shape.Reads as read-shape-reads
 
-pub read16-unique : OneOutcome 1 read16-kinds.ps read16-kinds.r read16-reads.Learnt
-read16-unique κs a x y e f p q = determined p q
-
-pub read32-unique : OneOutcome 1 read32-kinds.ps read32-kinds.r read32-reads.Learnt
-read32-unique κs a x y e f p q = determined p q
-
-pub read64-unique : OneOutcome 1 read64-kinds.ps read64-kinds.r read64-reads.Learnt
-read64-unique κs a x y e f p q = determined p q
+pub word-of-unique : OneOutcome 0 word-of-kinds.ps word-of-kinds.r word-of-reads.Learnt
+word-of-unique κs a x y e f p q = determined p q
 
 pub is-set-unique : OneOutcome 0 is-set-kinds.ps is-set-kinds.r is-set-reads.Learnt
 is-set-unique κs a x y e f p q = determined p q

@@ -5,7 +5,7 @@ ghost use mathlib.Core.Path.{_≡_};
 ghost use Prim.Native.Nat.{_+_, _*_, _<_, _≤_};
 ghost use lib.Dec.{leb};
 ghost use lib.ListN.{length};
-ghost use Rattle.form_fields.specs.Words.{word16, word32, word64};
+ghost use Rattle.form_fields.specs.Words.{word16};
 ghost use Rattle.form_fields.specs.Banks.{isSet, optOf};
 ghost use Rattle.form_fields.specs.Fields.{fieldAt, endsWell, soundAt, run};
 ghost use Rattle.form_fields.specs.Kind.{form1, form2, begins2, kindOf, headed, Known};
@@ -67,39 +67,32 @@ fn wide(b: u8) -> u16
     b as u16
 }
 
-// Two, four and eight bytes, big-endian.
-pub fn read16(file: &[u8], at: usize) -> u16
+// Two bytes as a number, big-endian.
+pub fn word_of(high: u8, low: u8) -> u16
+    ensures { λ r. ⌜ r ≡ high * 256 + low ⌝ }
+{
+    wide(high) * 256 + wide(low)
+}
+
+fn read16(file: &[u8], at: usize) -> u16
     requires { ⌜ at + 2 ≤ length (now file) ⌝ }
     ensures { λ r. ⌜ r ≡ word16 (now (file .entry)) at ⌝ }
 {
-    wide(file[at]) * 256 + wide(file[at + 1])
+    word_of(file[at], file[at + 1])
 }
 
-pub fn read32(file: &[u8], at: usize) -> u32
-    requires { ⌜ at + 4 ≤ length (now file) ⌝ }
-    ensures { λ r. ⌜ r ≡ word32 (now (file .entry)) at ⌝ }
-{
-    (read16(file, at) as u32) * 65_536 + read16(file, at + 2) as u32
-}
-
-pub fn read64(file: &[u8], at: usize) -> u64
-    requires { ⌜ at + 8 ≤ length (now file) ⌝ }
-    ensures { λ r. ⌜ r ≡ word64 (now (file .entry)) at ⌝ }
-{
-    (read32(file, at) as u64) * 4_294_967_296 + read32(file, at + 4) as u64
-}
-
-// Whether a bank's flag is set.
+// Whether a bank's flag is set; no flag, which is 0, is not.
 pub fn is_set(flags: u8, flag: u8) -> bool
-    requires { ⌜ 0 < flag ⌝ }
     ensures { λ r. ⌜ r ≡ isSet flags flag ⌝ }
 {
+    if flag == 0 {
+        return false;
+    }
     flags / flag % 2 == 1
 }
 
 // A number that is there where its flag is set.
 pub fn option(flags: u8, flag: u8, n: u32) -> Opt
-    requires { ⌜ 0 < flag ⌝ }
     ensures { λ r. ⌜ r ≡ optOf flags flag n ⌝ }
 {
     if is_set(flags, flag) {

@@ -9,9 +9,7 @@ use form_fields::is_set;
 use form_fields::kind_of;
 use form_fields::option;
 use form_fields::read_shape;
-use form_fields::read16;
-use form_fields::read32;
-use form_fields::read64;
+use form_fields::word_of;
 use refusal::MAX_BANKS;
 use refusal::Opt;
 use refusal::Refusal;
@@ -28,10 +26,32 @@ ghost use Rattle.bankdef.specs.Check.{noBank};
 ghost use Rattle.form_fields.specs.Banks.{fillBitAt, bankAt, banksIn, TableIs};
 ghost use Rattle.form_fields.specs.Columns.{column};
 ghost use Rattle.form_fields.specs.Lists.{ValuesAre, cells, Lists};
-ghost use Rattle.form_fields.specs.Words.{byte, word32};
+ghost use Rattle.form_fields.specs.Words.{byte, word16, word32, word64};
 ghost use Rattle.form_fields.specs.Kind.{Known};
 ghost use Rattle.form_fields.specs.Shape.{formOf, nodesStart};
 ghost use Rattle.form_fields.specs.Told.{ListsAre};
+
+// Two, four and eight bytes of a file, big-endian.
+fn read16(file: &[u8], at: usize) -> u16
+    requires { ⌜ at + 2 ≤ length (now file) ⌝ }
+    ensures { λ r. ⌜ r ≡ word16 (now (file .entry)) at ⌝ }
+{
+    word_of(file[at], file[at + 1])
+}
+
+fn read32(file: &[u8], at: usize) -> u32
+    requires { ⌜ at + 4 ≤ length (now file) ⌝ }
+    ensures { λ r. ⌜ r ≡ word32 (now (file .entry)) at ⌝ }
+{
+    (read16(file, at) as u32) * 65_536 + read16(file, at + 2) as u32
+}
+
+fn read64(file: &[u8], at: usize) -> u64
+    requires { ⌜ at + 8 ≤ length (now file) ⌝ }
+    ensures { λ r. ⌜ r ≡ word64 (now (file .entry)) at ⌝ }
+{
+    (read32(file, at) as u64) * 4_294_967_296 + read32(file, at + 4) as u64
+}
 
 // Eight bytes as two's complement.
 fn signed(w: u64) -> i64

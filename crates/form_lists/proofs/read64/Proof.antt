@@ -1,9 +1,9 @@
--- `form_fields::read64` meets its contract: the definition's sum, and it fits.
+-- `form_lists::read64` meets its contract: the definition's sum, and it fits.
 use borrow.Author.Needs.{needs}
 use native.Mathlib.Omega.{arith}
 use Rattle.form_fields.specs.Words.{word64}
-use Rattle.form_fields.proofs.read64.Statement.{statement}
-use Rattle.form_fields.proofs.read64.Tie as tie
+use Rattle.form_lists.proofs.read64.Statement.{statement}
+use Rattle.form_lists.proofs.read64.Tie as tie
 
 returns : tie.Need-returns
 unfolding word64
