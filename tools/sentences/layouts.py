@@ -1,11 +1,12 @@
 """A layout file by its sentences, for tools/why and tools/verdict: the call, what is lent to it, and the names of its nodes."""
 from pathlib import Path
 
+from node_names import KINDS
+
 from .calls import CALLS, Call, parsed
 from .values import Rec
 
 MOST_BYTES, MOST_SPANS = 16384, 4096          # what the program `layout` lends (document 01)
-KINDS = ("nothing", "switch to bank", "label", "constant", "instruction", "data", "open data", "reserve", "align", "addr", "assert")
 NODES = ("i", "j")                            # the letters that the sentences of a layout have for a node
 FILLS = {"inherited": 0, "full": 1}
 

@@ -50,7 +50,7 @@ returns-2 : tie.Need-returns-2
 returns-2 c =
     let e = spans (c .before .before .before) in
     let fits : SFits w64 (c .before .before .address-of .result) = record { sfits = c .before .before .address-of .ok } in
-    (rw e, (rw (e, toZ-ofZ w64 _ fits, c .before .before .address-of .ensures), (rw (e, c .before .word-of .ensures), rw (e, c .size-of .ensures .0))))
+    (rw e, (rw (e, toZ-ofZ w64 _ fits, c .before .before .address-of .ensures), (rw (e, c .before .word-of .ensures), rw (e, c .size-of .ensures))))
 
 pub put-span-spec : {M : Type 1} → statement M
 put-span-spec =
