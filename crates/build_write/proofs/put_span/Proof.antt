@@ -57,4 +57,4 @@ put-span-spec =
     tie.close
     (tie.spec
     (λ c κs. search needs) returns (λ c κs. search needs) mul-t12 slice-set-from-addresses (λ c κs. search needs) mul-offsets slice-write-offsets
-    (λ c κs. search needs) mul-sizes slice-write-sizes add-result (λ c. search needs) (λ c. search needs) (λ c. search needs) returns-2)
+    (λ c κs. search needs) (λ c. search needs) mul-sizes slice-write-sizes add-result (λ c. search needs) (λ c. search needs) (λ c. search needs) returns-2)

@@ -48,5 +48,5 @@ pub check-place-spec : {M : Type 1} → statement M
 check-place-spec =
     tie.close
     (tie.spec
-    (λ c. search needs) (λ c κs. search needs) (λ c. search needs) (λ c κs. search needs) returns (λ c κs. search needs) returns-2
+    (λ c. search needs) (λ c κs. search needs) (λ c. search needs) (λ c. search needs) (λ c κs. search needs) returns (λ c κs. search needs) returns-2
     (λ c κs. search needs) returns-3 returns-4)
