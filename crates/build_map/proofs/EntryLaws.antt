@@ -8,10 +8,10 @@ use Rattle.bitvec.specs.Lists.{listOf}
 use Rattle.bitvec.specs.Laws.Lists.{listOf-more}
 use Rattle.blocks.specs.Offsets.{wordOf}
 use Rattle.iter.specs.declared.Walk.{Walk}
+use Rattle.lists.specs.Kinds.{sizeOf}
 use Rattle.lists.specs.Lists.{Row}
 use Rattle.resolver.specs.Once.{Program, walkTo}
 use Rattle.resolver.specs.Walking.{Walks}
-use Rattle.resolver.specs.Padding.{sizeBy}
 use Rattle.build_sights.specs.declared.Visit.{Visit}
 use Rattle.build_sights.specs.Visits.{positionOf, visitAt}
 use Rattle.build_map.specs.Map.{bankShown, positionShown, outputShown, sizeShown, shown}
@@ -71,7 +71,7 @@ module _ {p : Program} {row : Row} {nodes i : ℕ} {walk : Walk} {banks₀ posit
 
   -- one node more
   pub goes-on : {v : Visit} → v ≡ visitAt p row i → {walk′ : Walk} → Walks p row (i + 1) walk′ → (position output size : ℕ) → position ≡ positionOf v
-      → output ≡ wordOf (v .out) → size ≡ sizeBy (v .node)
+      → output ≡ wordOf (v .out) → size ≡ sizeOf (v .node)
       → Writing p row nodes (i + 1) walk′ banks₀ positions₀ outputs₀ sizes₀ (set banks i (v .bank)) (set positions i position)
       (set outputs i output) (set sizes i size)
   goes-on {v} is walks position output size at out long =
@@ -81,7 +81,7 @@ module _ {p : Program} {row : Row} {nodes i : ℕ} {walk : Walk} {banks₀ posit
         banked = filled-next (g .banked) (omega (arith, room .0)) (v .bank) (ap (λ (w : Visit). w .bank) is);
         placed = filled-next (g .placed) (omega (arith, room .1)) position (at ∙ ap positionOf is);
         given = filled-next (g .given) (omega (arith, room .2)) output (out ∙ ap (λ (w : Visit). wordOf (w .out)) is);
-        sized = filled-next (g .sized) (omega (arith, room .3)) size (long ∙ ap (λ (w : Visit). sizeBy (w .node)) is);
+        sized = filled-next (g .sized) (omega (arith, room .3)) size (long ∙ ap (λ (w : Visit). sizeOf (w .node)) is);
       }
 
 module _ {p : Program} {row : Row} {nodes i : ℕ} {walk : Walk} {banks₀ positions₀ outputs₀ sizes₀ banks positions outputs sizes : List ℕ}

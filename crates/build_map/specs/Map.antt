@@ -17,9 +17,10 @@ use Rattle.refusal.specs.declared.Verdict.the-variants.{Accepted, Refused}
 use Rattle.bitvec.specs.Lists.{listOf}
 use Rattle.blocks.specs.Offsets.{wordOf}
 use Rattle.iter.specs.declared.Lost.{Lost}
+use Rattle.lists.specs.Kinds.{sizeOf}
 use Rattle.lists.specs.Lists.{Row}
 use Rattle.resolver.specs.Once.{Program}
-use Rattle.resolver.specs.Padding.{sizeBy, paddingTo}
+use Rattle.resolver.specs.Padding.{paddingTo}
 use Rattle.resolver.specs.Passes.{program, rowOfPass}
 use Rattle.resolver.specs.declared.Settled.{Settled}
 use Rattle.resolver.specs.declared.Settled.the-variants.{At, Refused as Unsettled}
@@ -131,7 +132,7 @@ abbrev pub outputShown : Program → Row → ℕ → ℕ
 outputShown p row i = wordOf (visitAt p row i .out)
 
 abbrev pub sizeShown : Program → Row → ℕ → ℕ
-sizeShown p row i = sizeBy (visitAt p row i .node)
+sizeShown p row i = sizeOf (visitAt p row i .node)
 
 -- a list with the entries of the first n nodes, and its old contents past them
 abbrev pub shown : ℕ → (ℕ → ℕ) → List ℕ → List ℕ

@@ -11,32 +11,16 @@ use iter::pace_of_parts;
 use iter::start;
 use lists::Node;
 use lists::node_at;
-use refusal::INSTRUCTION;
-use refusal::RESERVE;
+use lists::size_of;
 ghost use mathlib.Core.Path.{_≡_};
 ghost use Prim.Native.Nat.{_≤_};
 ghost use lib.ListN.{length};
 ghost use Rattle.refusal.specs.Limits.{maxNodes};
 ghost use Rattle.iter.specs.Pace.{Paces};
 ghost use Rattle.resolver.specs.Once.{walkTo, programWith};
-ghost use Rattle.resolver.specs.Padding.{sizeBy};
 ghost use Rattle.resolver.specs.Switches.{Switches};
 ghost use Rattle.lists.specs.Lists.{rowWith};
 ghost use Rattle.build_map.specs.Map.{shown, bankShown, positionShown, outputShown, sizeShown};
-
-// The bits of an item or a reserve; any other node has none.
-fn size_of(node: Node) -> u32
-    ensures { λ r. ⌜ r ≡ sizeBy node ⌝ }
-{
-    let kind = node.kind;
-    if kind < INSTRUCTION {
-        return 0;
-    }
-    if RESERVE < kind {
-        return 0;
-    }
-    node.number
-}
 
 // The step over one node, by its parts. It is the build's own (`iter::pace`), kind by kind; this second caller keeps that function out of the build's loops,
 // which are faster so (docs/PROVING.md).

@@ -17,8 +17,9 @@ use Rattle.bankdef.specs.declared.Bankdef.{Bankdef}
 use Rattle.iter.specs.declared.Pos.{Pos}
 use Rattle.iter.specs.declared.Moved.{Moved}
 use Rattle.iter.specs.declared.Moved.the-variants.{To, Refused as Stopped}
+use Rattle.lists.specs.Kinds.{isItem}
 use Rattle.lists.specs.declared.Node.{Node}
-use Rattle.lists.specs.Lists.{firstOf, isItem}
+use Rattle.lists.specs.Lists.{firstOf}
 use Rattle.overlap_checker.specs.declared.Entry.{Entry}
 use Rattle.overlap_checker.specs.Interval.{interval, Within}
 use Rattle.overlap_checker.specs.State.{State, answer}

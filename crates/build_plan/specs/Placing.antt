@@ -13,6 +13,7 @@ use Rattle.refusal.specs.declared.Opt.the-variants.{None, Some}
 use Rattle.refusal.specs.declared.Offset.{Offset}
 use Rattle.refusal.specs.declared.Offset.the-variants.{None as Nowhere, At as Out}
 use Rattle.bankdef.specs.declared.Bankdef.{Bankdef}
+use Rattle.lists.specs.Kinds.{isReserveKind, isPlacedKind, sizeOf}
 use Rattle.lists.specs.declared.Node.{Node}
 use Rattle.iter.specs.declared.Pos.{Pos}
 use Rattle.iter.specs.declared.Moved.{Moved}
@@ -25,16 +26,15 @@ use Rattle.overlap_checker.specs.Folds.{stateAfter}
 use Rattle.build_sights.specs.declared.Visit.{Visit}
 use Rattle.build_sights.specs.Visits.{each}
 use Rattle.build_sights.specs.Items.{isWritten}
-use Rattle.build_sights.specs.Spans.{sizeOf}
 
 -- ---- offers
 
 abbrev pub isReserve : Node → Bool
-isReserve n = eqb (n .kind) 7
+isReserve n = isReserveKind (n .kind)
 
 -- "labels (size 0), written items (4, 5, 6) and reserves": what 9 and 10 apply to
 abbrev pub isPlaced : Node → Bool
-isPlaced n = eqb (n .kind) 2 || (isWritten n || isReserve n)
+isPlaced n = isPlacedKind (n .kind)
 
 abbrev pub isOffered : Node → Bool
 isOffered n = isWritten n || isReserve n

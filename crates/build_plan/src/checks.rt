@@ -1,32 +1,17 @@
 // Refusals 9, 10 and 11 at a node.
 use bankdef::Bankdef;
-use build_sights::is_written;
-use build_sights::size_of;
 use iter::Pos;
 use lists::Node;
-use refusal::LABEL;
+use lists::is_written;
+use lists::size_of;
 use refusal::Offset;
 use refusal::Opt;
-use refusal::RESERVE;
 use refusal::Refusal;
 use refusal::Verdict;
 ghost use mathlib.Core.Path.{_≡_};
 ghost use mathlib.Core.Bool.{_&&_};
 ghost use Rattle.build_sights.specs.Items.{isWritten};
-ghost use Rattle.build_plan.specs.Placing.{isPlaced, endsPast, lacksOutput, closesDefault, usesDefault, checked};
-
-// "labels (size 0), written items (4, 5, 6) and reserves"
-pub fn is_placed(node: Node) -> bool
-    ensures { λ r. ⌜ r ≡ isPlaced node ⌝ }
-{
-    if node.kind == LABEL {
-        return true;
-    }
-    if is_written(node) {
-        return true;
-    }
-    node.kind == RESERVE
-}
+ghost use Rattle.build_plan.specs.Placing.{endsPast, lacksOutput, closesDefault, usesDefault, checked};
 
 fn ends_past(size: Opt, end: u64) -> bool
     ensures { λ r. ⌜ r ≡ endsPast size end ⌝ }
@@ -69,7 +54,7 @@ fn check_bank_usage(closed: bool, bank: u64) -> bool
 fn written_nowhere(node: Node, out: Offset) -> bool
     ensures { λ r. ⌜ r ≡ isWritten node && lacksOutput out ⌝ }
 {
-    if is_written(node) {
+    if is_written(node.kind) {
         return lacks_output(out);
     }
     false
@@ -87,7 +72,7 @@ pub fn check_place(
     ensures { λ r. ⌜ r ≡ checked closed bank def node at out ⌝ }
 {
     let size = def.size;
-    let end = (at.position as u64) + size_of(node);
+    let end = (at.position as u64) + (size_of(node) as u64);
     if check_bank_usage(closed, bank) {
         return Verdict::Refused(Refusal::DefaultBank(node.index));
     }

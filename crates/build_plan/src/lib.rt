@@ -2,11 +2,8 @@
 mod checks;
 
 use crate::checks::check_place;
-use crate::checks::is_placed;
 use bankdef::Bankdef;
 use bankdef::Bankdefs;
-use build_sights::is_span;
-use build_sights::is_written;
 pub use checks::closes_default;
 use iter::Lost;
 use iter::Moved;
@@ -19,6 +16,9 @@ use iter::pace;
 use iter::sight_of;
 use iter::start;
 use lists::Node;
+use lists::is_placed;
+use lists::is_span;
+use lists::is_written;
 use lists::node_at;
 use overlap_checker::Offered;
 use refusal::LABEL;
@@ -128,7 +128,7 @@ fn place(
             marks: mark_count,
         },
         Moved::To(at) => {
-            if !is_placed(node) {
+            if !is_placed(node.kind) {
                 return Offered {
                     verdict: Verdict::Accepted,
                     count,
@@ -198,7 +198,7 @@ fn length_after(node: Node, out: Offset, length: u64) -> u64
     ensures { λ r. ⌜ r ≡ lengthOf length (itemAt node out) ⌝ }
     ensures { λ r. ⌜ r ≤ maxEnd ⌝ }
 {
-    if !is_written(node) {
+    if !is_written(node.kind) {
         return length;
     }
     match out {
@@ -217,7 +217,7 @@ fn spans_after(node: Node, spans: u64) -> u64
     requires { ⌜ spans ≤ maxNodes ⌝ }
     ensures { λ r. ⌜ r ≡ pick (isSpan node) (spans + 1) spans ⌝ }
 {
-    if is_span(node) { spans + 1 } else { spans }
+    if is_span(node.kind) { spans + 1 } else { spans }
 }
 
 // The image's length and the number of spans, so far.

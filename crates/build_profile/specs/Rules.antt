@@ -11,6 +11,7 @@ use Rattle.refusal.specs.declared.Verdict.{Verdict}
 use Rattle.refusal.specs.declared.Verdict.the-variants.{Accepted, Refused}
 use Rattle.bankdef.specs.declared.Bankdefs.{Bankdefs}
 use Rattle.lists.specs.FaultExactly.{shownIn}
+use Rattle.lists.specs.Kinds.{isAlign, isAddr}
 use Rattle.lists.specs.Lists.{Lists, firstOf}
 use Rattle.resolver.specs.Once.{bankRecord}
 use Rattle.resolver.specs.Passes.{first}
@@ -30,7 +31,7 @@ bankAligned (Some a) = aligned a
 
 -- of an `align` node, by its kind and its number
 abbrev pub nodeAligned : ℕ → ℕ → Bool
-nodeAligned kind number = not (eqb kind 8) || aligned number
+nodeAligned kind number = not (isAlign kind) || aligned number
 
 abbrev pub multiple : ℕ → ℕ → Bool
 multiple x of = eqb (x % of) 0
@@ -52,7 +53,7 @@ unitKept unit = eqb unit 8 || eqb unit 16
 
 -- "`addr` goes only to a multiple of its bank's unit": of a node, by its kind and its number
 abbrev pub addrKept : ℕ → ℕ → ℕ → Bool
-addrKept unit kind number = not (eqb kind 9) || multiple number unit
+addrKept unit kind number = not (isAddr kind) || multiple number unit
 
 -- of a node's number alone: rule 2 for an alignment, else rule 6
 abbrev pub keptBy : ℕ → ℕ → ℕ → Bool

@@ -6,7 +6,7 @@ use Rattle.refusal.specs.Pick.{pick}
 use Rattle.refusal.specs.declared.Offset.{Offset}
 use Rattle.refusal.specs.declared.Offset.the-variants.{None as Nowhere, At as Out}
 use Rattle.lists.specs.declared.Node.{Node}
-use Rattle.lists.specs.Lists.{isItem}
+use Rattle.lists.specs.Kinds.{isItem}
 use Rattle.bitvec.specs.Written.{written}
 use Rattle.build_sights.specs.declared.Visit.{Visit}
 use Rattle.build_sights.specs.Visits.{each}

@@ -1,8 +1,7 @@
 -- The spans of a row (document 01, "Image, spans, blocks").
 use Prim.Native.Nat.{ℕ}
-use mathlib.Core.Bool.{Bool, _||_}
+use mathlib.Core.Bool.{Bool}
 use mathlib.Core.List.{List, [], _∷_, _++_, map}
-use lib.Dec.{eqb}
 use lib.IntN.{ℤ, pos}
 use lib.ListN.{length, drop}
 use Rattle.refusal.specs.Pick.{pick}
@@ -10,11 +9,11 @@ use Rattle.refusal.specs.declared.Offset.{Offset}
 use Rattle.iter.specs.Address.{addressOf}
 use Rattle.iter.specs.declared.Address.{Address}
 use Rattle.iter.specs.declared.Address.the-variants.{At, Refused}
+use Rattle.lists.specs.Kinds.{isSpanKind, sizeOf}
 use Rattle.lists.specs.declared.Node.{Node}
 use Rattle.blocks.specs.Offsets.{wordOf}
 use Rattle.build_sights.specs.declared.Visit.{Visit}
 use Rattle.build_sights.specs.Visits.{positionOf, each}
-use Rattle.build_sights.specs.Items.{isWritten}
 
 -- "Spans are labels (size 0) and written items in node order, with address and offset or none."
 pub record Span : Type 0 where
@@ -23,11 +22,7 @@ pub record Span : Type 0 where
   pub size : ℕ
 
 abbrev pub isSpan : Node → Bool
-isSpan n = eqb (n .kind) 2 || isWritten n
-
--- "labels (size 0)"
-abbrev pub sizeOf : Node → ℕ
-sizeOf n = pick (eqb (n .kind) 2) 0 (n .number)
+isSpan n = isSpanKind (n .kind)
 
 -- the address of a position, in whole units; 0 in a bank that no address can be told of, which a sound table has none of
 abbrev pub addressTold : Address → ℤ

@@ -4,9 +4,6 @@ mod blank;
 use crate::blank::lay_blank;
 use bankdef::Bankdef;
 use bankdef::Bankdefs;
-use build_sights::is_span;
-use build_sights::is_written;
-use build_sights::size_of;
 use iter::Address;
 use iter::Walk;
 use iter::bank_after;
@@ -15,7 +12,10 @@ use iter::lost_after;
 use iter::pace;
 use iter::start;
 use lists::Node;
+use lists::is_span;
+use lists::is_written;
 use lists::node_at;
+use lists::size_of;
 use refusal::Offset;
 ghost use mathlib.Core.Path.{_≡_};
 ghost use mathlib.Core.Bool.{true};
@@ -28,9 +28,10 @@ ghost use Rattle.iter.specs.Address.{addressOf};
 ghost use Rattle.iter.specs.Step.{startOf};
 ghost use Rattle.resolver.specs.Once.{walkTo, programWith};
 ghost use Rattle.resolver.specs.Switches.{Switches};
+ghost use Rattle.lists.specs.Kinds.{sizeOf};
 ghost use Rattle.lists.specs.Lists.{rowWith};
 ghost use Rattle.build_sights.specs.Items.{itemAt, itemsOf, imageOf};
-ghost use Rattle.build_sights.specs.Spans.{isSpan, sizeOf, addressTold, spansOf, over, addresses as addressesOf, words as wordsOf, sizes as sizesOf};
+ghost use Rattle.build_sights.specs.Spans.{isSpan, addressTold, spansOf, over, addresses as addressesOf, words as wordsOf, sizes as sizesOf};
 ghost use Rattle.build_sights.specs.Visits.{visits};
 ghost use Rattle.build_write.specs.Blank.{blankOf};
 ghost use Rattle.build_write.specs.Writes.{Fit, HasRoom};
@@ -40,7 +41,7 @@ fn write_item(node: Node, out: Offset, values: &[u8], image: &mut [u8])
     requires { ⌜ Fit (length (now values)) (length (now image)) (itemAt node out) ⌝ }
     ensures { λ _. ⌜ now (image .exit) ≡ imageOf (now (values .entry)) (now (image .entry)) (itemAt node out) ⌝ }
 {
-    if !is_written(node) {
+    if !is_written(node.kind) {
         return;
     }
     match out {
@@ -82,12 +83,12 @@ fn put_span(
     ensures offsets { λ r. ⌜ now (offsets .exit) ≡ pick (isSpan node) (set (now (offsets .entry)) count (wordOf out)) (now (offsets .entry)) ⌝ }
     ensures sizes { λ r. ⌜ now (sizes .exit) ≡ pick (isSpan node) (set (now (sizes .entry)) count (sizeOf node)) (now (sizes .entry)) ⌝ }
 {
-    if !is_span(node) {
+    if !is_span(node.kind) {
         return count;
     }
     addresses[count] = address_of(def, position, node.index);
     offsets[count] = blocks::word_of(out);
-    sizes[count] = size_of(node);
+    sizes[count] = size_of(node) as u64;
     count + 1
 }
 

@@ -1,7 +1,9 @@
 -- A step in numbers, kind by kind: each is a crossing of specs/Crossing, by what the node sees and where it moves.
 use Prim.Native.Nat.{ℕ, _+_, _≤_, _<_}
 use mathlib.Core.Path.{_≡_, refl, sym, ap, _∙_}
-use mathlib.Core.Bool.{true, false}
+use mathlib.Core.Bool.{Bool, true, false, _&&_}
+use mathlib.Core.Logic.{_⊎_, inl, inr}
+use native.Mathlib.Decide.{decLe}
 use native.Mathlib.Omega.{arith}
 use lib.Dec.{leb}
 use borrow.Author.Tests.{eq-eqb, ne-eqb}
@@ -19,17 +21,59 @@ use Rattle.iter.specs.Laws.StepFacts.{sees-plain}
 use Rattle.iter.specs.Pace.{numbersOf, crossedBy, Paces, madeBy, haltedBy, onward, addedBy, alignedBy}
 use Rattle.iter.specs.Step.{movedBy, movedByDistance, alignedTo, outermostSymbol, seenOf, badState, resolved, movedOn, advancedOf, still, motionOf}
 use Rattle.iter.specs.Step.{alignedMotion, seenMotion, advanceMotion}
-use Rattle.iter.specs.Theorems.Advance.{sound-state, early, item, aligning, setting, asserting, other}
+use Rattle.iter.specs.Theorems.Advance.{sound-state, early, item, aligning, setting, asserting, other as moves-other}
 use Rattle.iter.specs.Theorems.Aligned.{four-when, told-when}
 use Rattle.iter.specs.declared.Distance.{Distance}
 use Rattle.iter.specs.declared.Distance.the-variants.{Skips}
 use Rattle.iter.specs.declared.Motion.{Motion}
 use Rattle.iter.specs.declared.Moved.the-variants.{To}
+use Rattle.lists.specs.Kinds.{isSymbol}
+use Rattle.lists.specs.Laws.Kinds.{Numbers, stay, switch, mark, add, align, set, other}
+use Rattle.lists.specs.declared.kinds.Doing.the-variants.{Stays, Switches, Symbol, Adds, Aligns, Sets, Unknown}
 use Rattle.lists.specs.declared.Node.{Node}
 use Rattle.iter.specs.declared.Paced.{Paced}
 use Rattle.iter.specs.declared.Pos.{Pos}
 use Rattle.iter.specs.declared.Skipped.{Skipped}
 use Rattle.iter.specs.Laws.Advanced.{sight-plain, sight-unaligned, sight-aligned, advance-aligned}
+
+-- the numbers of a kind, by what it does
+pub stay-told : {kind : ℕ} → Numbers kind Stays → (kind ≡ 0) ⊎ (kind ≡ 10)
+stay-told (stay h) = h
+
+pub switch-told : {kind : ℕ} → Numbers kind Switches → kind ≡ 1
+switch-told (switch e) = e
+
+pub mark-told : {kind : ℕ} → Numbers kind Symbol → (2 ≤ kind) × (kind ≤ 3)
+mark-told (mark low high) = (low, high)
+
+pub add-told : {kind : ℕ} → Numbers kind Adds → (4 ≤ kind) × (kind ≤ 7)
+add-told (add low high) = (low, high)
+
+pub align-told : {kind : ℕ} → Numbers kind Aligns → kind ≡ 8
+align-told (align e) = e
+
+pub set-told : {kind : ℕ} → Numbers kind Sets → kind ≡ 9
+set-told (set e) = e
+
+pub other-told : {kind : ℕ} → Numbers kind Unknown → 10 < kind
+other-told (other h) = h
+
+-- a symbol of depth 0, and one that is not
+pub outermost : (node : Node) → (2 ≤ node .kind) × (node .kind ≤ 3) → node .operand ≡ 0 → outermostSymbol node ≡ true
+outermost node k e =
+    elim (decLe (node .kind) 2) [
+      | yes low ↦ (let q : node .kind ≡ 2 = omega (arith, k .0) in rw (eq-eqb (node .kind) 2 q, eq-eqb (node .operand) 0 e))
+      | no high ↦
+          (let q : node .kind ≡ 3 = omega (arith, k .1) in
+          rw (ne-eqb (node .kind) 2 (λ z. omega arith), eq-eqb (node .kind) 3 q, eq-eqb (node .operand) 0 e))
+    ]
+
+pub deeper : (node : Node) → (node .operand ≡ 0 → ⊥) → outermostSymbol node ≡ false
+deeper node n = rw (ne-eqb (node .operand) 0 n) (and-false (isSymbol (node .kind)))
+  where
+    and-false : (t : Bool) → t && false ≡ false
+    and-false true = refl
+    and-false false = refl
 
 -- a node of kind 0 or 1 is no symbol
 pub early-plain : (node : Node) → node .kind < 2 → outermostSymbol node ≡ false
@@ -92,11 +136,19 @@ module _ (def : Bankdef) (at : Pos) (node : Node) where
         paces-made at (record { position = node .number; known = resolved node }) noSkip
         (by-sight at _ (sight-plain def at node (no-symbol (omega arith))) refl (λ e. omega arith) (setting def at node k)) f
 
+    -- kinds that leave the position: 0 and 10, and 1
+    pub paces-stay : {r : Paced} → (node .kind ≡ 0) ⊎ (node .kind ≡ 10) → r ≡ madeBy at at noSkip → Paces def at node r
+    paces-stay (inl e) f = paces-plain (early-plain node (omega arith)) (omega arith) f
+    paces-stay (inr e) f = paces-assert e f
+
+    pub paces-switch : {r : Paced} → node .kind ≡ 1 → r ≡ madeBy at at noSkip → Paces def at node r
+    paces-switch e f = paces-plain (early-plain node (omega arith)) (omega arith) f
+
     -- "Any other kind number is refused."
     pub paces-other : {r : Paced} → 10 < node .kind → r ≡ haltedBy at 4 → Paces def at node r
     paces-other h f =
         paces-malformed (cross-stuck def at node sound at (Malformed (node .index)) (sees-plain def at node (no-symbol (omega arith)))
-        (sound-state def at node sound ∙ other def at node h)) f
+        (sound-state def at node sound ∙ moves-other def at node h)) f
 
     -- "4 to 7 add their number"
     pub paces-item : {r : Paced} → 4 ≤ node .kind → node .kind ≤ 7 → r ≡ addedBy at (node .number) (staysKnown (at .known) node) noSkip → Paces def at node r

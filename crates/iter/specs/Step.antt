@@ -14,6 +14,7 @@ use Rattle.iter.specs.Distance.{noSkip, distanceOf}
 use Rattle.iter.specs.declared.Distance.{Distance}
 use Rattle.iter.specs.declared.Distance.the-variants.{Skips, Refused as NoDistance}
 use Rattle.iter.specs.declared.Pos.{Pos}
+use Rattle.lists.specs.Kinds.{isSwitch, isSymbol, isDeclared, isAlign, readsState, doesOf, byDoing}
 use Rattle.lists.specs.declared.Node.{Node}
 use Rattle.iter.specs.declared.Lost.{Lost}
 use Rattle.iter.specs.declared.Walk.{Walk}
@@ -52,7 +53,7 @@ alignedTo def at a known node = movedByDistance at (distanceOf def (at .position
 
 -- "a symbol (label or constant) of depth 0": kinds 2 and 3, whose operand is a depth
 abbrev pub outermostSymbol : Node → Bool
-outermostSymbol node = (eqb (node .kind) 2 || eqb (node .kind) 3) && eqb (node .operand) 0
+outermostSymbol node = isSymbol (node .kind) && eqb (node .operand) 0
 
 abbrev pub labelAligned : Bankdef → Opt → Pos → ℕ → Moved
 labelAligned def None at node = To at
@@ -69,18 +70,19 @@ resolved node = eqb (node .state) 0
 
 -- "0, 1 and 2 don't read the state": the other kinds read it, and "4: .. a call's number is malformed: .. state" where it is beyond 2
 abbrev pub badState : Node → Bool
-badState node = leb 3 (node .kind) && ltb 2 (node .state)
+badState node = readsState (node .kind) && ltb 2 (node .state)
 
 -- "Afterwards 4 to 7 add their number, 8 adds the distance to alignment, 9 sets the position. Known-ness: 4, 6, 7, 8 keep it only if
 -- state is 0; 5 and symbols leave it; 9 makes it so exactly if state is 0." "Any other kind number is refused."
 unfoldable pub movedOn : Bankdef → Pos → Node → Moved
 movedOn def at node =
-    pick (eqb (node .kind) 5) (movedBy at (node .number) (at .known) (node .index))
-    (pick (leb 4 (node .kind) && leb (node .kind) 7) (movedBy at (node .number) (at .known && resolved node) (node .index))
-    (pick (eqb (node .kind) 8) (alignedTo def at (node .number) (at .known && resolved node) (node .index))
-    (pick (eqb (node .kind) 9) (To (record { position = node .number; known = resolved node }))
-    (pick (leb (node .kind) 10) (To at)
-    (Refused (Malformed (node .index)))))))
+    let known = pick (isDeclared (node .kind)) (at .known) (at .known && resolved node) in
+    byDoing (doesOf (node .kind))
+    (To at)
+    (movedBy at (node .number) known (node .index))
+    (alignedTo def at (node .number) known (node .index))
+    (To (record { position = node .number; known = resolved node }))
+    (Refused (Malformed (node .index)))
 
 unfoldable pub advancedOf : Bankdef → Pos → Node → Moved
 advancedOf def at node = pick (badState node) (Refused (Malformed (node .index))) (movedOn def at node)
@@ -122,14 +124,14 @@ seenMotion def at node = record { to = seenOf def at node; skipped = seenSkips d
 -- what a node's own advance skips: an `align` its distance. "An `addr` that moves the position is not padding"; no other node aligns.
 unfoldable pub advanceSkips : Bankdef → Pos → Node → Skipped
 advanceSkips def at node =
-    whenMade (advancedOf def at node) (pick (eqb (node .kind) 8) (skipsBy (distanceOf def (at .position) (node .number) (node .index))) noSkip)
+    whenMade (advancedOf def at node) (pick (isAlign (node .kind)) (skipsBy (distanceOf def (at .position) (node .number) (node .index))) noSkip)
 
 abbrev pub advanceMotion : Bankdef → Pos → Node → Motion
 advanceMotion def at node = record { to = advancedOf def at node; skipped = advanceSkips def at node }
 
 -- "bits lost to `align` and to label alignment": an `align`'s own, and else what the node's sight skips
 abbrev pub counted : Node → Skipped → Skipped → Skipped
-counted node sight own = pick (eqb (node .kind) 8) own sight
+counted node sight own = pick (isAlign (node .kind)) own sight
 
 -- "each bank should carry the sum of bits lost": a sum stops at the largest number of 64 bits, which no walk from the start comes to
 -- (specs/Padding)
@@ -147,7 +149,7 @@ lostAfter lost s = record { bits = sumAfter (lost .bits) (s .bits); units = sumA
 
 -- "1 bank switch": "The operand is a bank for 1"
 abbrev pub bankAfter : ℕ → Node → ℕ
-bankAfter bank node = pick (eqb (node .kind) 1) (node .operand) bank
+bankAfter bank node = pick (isSwitch (node .kind)) (node .operand) bank
 
 -- "Each bank's position .. is kept through switches", and so are the sums of what it lost.
 abbrev pub kept : Walk → ℕ → Pos → Skipped → Walk

@@ -7,30 +7,23 @@ use crate::alignment::distance_in_bits;
 use crate::alignment::in_units;
 use crate::alignment::is_tellable;
 use bankdef::Bankdef;
+use lists::Doing;
 use lists::Node;
-use refusal::ADDR;
-use refusal::ALIGN;
-use refusal::ASSERT;
-use refusal::CONSTANT;
+use lists::does;
+use lists::reads_state;
 use refusal::DATA;
-use refusal::INSTRUCTION;
-use refusal::LABEL;
-use refusal::NOTHING;
 use refusal::Opt;
-use refusal::RESERVE;
 use refusal::RESOLVED;
 use refusal::Refusal;
-use refusal::SWITCH;
 use refusal::UNRESOLVED;
 ghost use mathlib.Core.Path.{_≡_};
-ghost use mathlib.Core.Bool.{true, false, _||_};
+ghost use mathlib.Core.Bool.{true, false};
 ghost use Prim.Native.Nat.{_≤_};
-ghost use lib.Dec.{eqb};
 ghost use Rattle.refusal.specs.declared.Opt.the-variants.{None};
 ghost use Rattle.iter.specs.Distance.{noSkip};
 ghost use Rattle.iter.specs.Known.{staysKnown};
 ghost use Rattle.iter.specs.Pace.{Paces, Still, bankRead, nodeWith, madeBy, haltedBy, addedBy, alignedBy, seenBy, whyBy};
-ghost use Rattle.iter.specs.Step.{outermostSymbol, badState};
+ghost use Rattle.iter.specs.Step.{badState};
 
 // A step is made, or is refused for one of two of document 01's numbers.
 pub const MADE: u8 = 0;
@@ -103,20 +96,6 @@ fn aligned_first(at: Pos, skipped: Skipped) -> Paced
     made(seen, seen, skipped)
 }
 
-// "2 label, 3 constant"
-fn is_symbol(kind: u8) -> bool
-    ensures { λ r. ⌜ r ≡ (eqb kind 2 || eqb kind 3) ⌝ }
-{
-    kind == LABEL || kind == CONSTANT
-}
-
-// "a symbol (label or constant) of depth 0"
-fn is_outermost_symbol(node: Node) -> bool
-    ensures { λ r. ⌜ r ≡ outermostSymbol node ⌝ }
-{
-    is_symbol(node.kind) && node.operand == 0
-}
-
 // Whether a position stays known over an item or an alignment: "4, 6, 7, 8 keep it only if state is 0; 5 .. leave it".
 pub fn stays_known(known: bool, node: Node) -> bool
     ensures { λ r. ⌜ r ≡ staysKnown known node ⌝ }
@@ -131,17 +110,17 @@ pub fn stays_known(known: bool, node: Node) -> bool
 pub fn is_bad_state(node: Node) -> bool
     ensures { λ r. ⌜ r ≡ badState node ⌝ }
 {
-    node.kind >= CONSTANT && node.state > UNRESOLVED
+    reads_state(node.kind) && node.state > UNRESOLVED
 }
 
 // "A node sees its bank's position before its own advance, except that a symbol (label or constant) of depth 0 in a bank with label alignment is aligned
 // first.", and is where it is afterwards.
 fn pace_symbol(def: Bankdef, at: Pos, node: Node) -> Paced
     requires { ⌜ badState node ≡ false ⌝ }
-    requires { ⌜ node .kind ≤ 3 ⌝ }
+    requires { ⌜ (2 ≤ node .kind) × (node .kind ≤ 3) ⌝ }
     ensures { λ r. ⌜ Paces def at node r ⌝ }
 {
-    if !is_outermost_symbol(node) {
+    if node.operand != 0 {
         return stood(at);
     }
     let align = def.align;
@@ -177,19 +156,19 @@ fn pace_by_kind(def: Bankdef, at: Pos, node: Node) -> Paced
     if is_bad_state(node) {
         return halted(at, MALFORMED);
     }
-    let kind = node.kind;
-    match kind {
-        NOTHING..=SWITCH => stood(at),
-        LABEL..=CONSTANT => pace_symbol(def, at, node),
-        INSTRUCTION..=RESERVE => added(
+    match does(node.kind) {
+        Doing::Stays => stood(at),
+        Doing::Switches => stood(at),
+        Doing::Symbol => pace_symbol(def, at, node),
+        Doing::Adds => added(
             at,
             node.number,
             stays_known(at.known, node),
             Skipped { bits: 0, units: 0 },
         ),
-        ALIGN => pace_align(def, at, node),
+        Doing::Aligns => pace_align(def, at, node),
         // "An `addr` that moves the position is not padding."
-        ADDR => made(
+        Doing::Sets => made(
             at,
             Pos {
                 position: node.number,
@@ -197,9 +176,8 @@ fn pace_by_kind(def: Bankdef, at: Pos, node: Node) -> Paced
             },
             Skipped { bits: 0, units: 0 },
         ),
-        ASSERT => stood(at),
         // "Any other kind number is refused."
-        _ => halted(at, MALFORMED),
+        Doing::Unknown => halted(at, MALFORMED),
     }
 }
 
@@ -255,17 +233,16 @@ fn stands_still(def: Bankdef, node: Node) -> bool
     if is_bad_state(node) {
         return false;
     }
-    let kind = node.kind;
-    match kind {
-        NOTHING..=SWITCH => true,
-        LABEL..=CONSTANT => {
-            if is_outermost_symbol(node) {
+    match does(node.kind) {
+        Doing::Stays => true,
+        Doing::Switches => true,
+        Doing::Symbol => {
+            if node.operand == 0 {
                 aligns_no_label(def)
             } else {
                 true
             }
         }
-        ASSERT => true,
         _ => false,
     }
 }
@@ -277,9 +254,8 @@ fn adds_number(node: Node) -> bool
     if is_bad_state(node) {
         return false;
     }
-    let kind = node.kind;
-    match kind {
-        INSTRUCTION..=RESERVE => true,
+    match does(node.kind) {
+        Doing::Adds => true,
         _ => false,
     }
 }

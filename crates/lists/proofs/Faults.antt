@@ -1,18 +1,19 @@
 -- Laws of the list check: each way through the code ends in what the definition says of the node.
 use Prim.Native.Nat.{ℕ, zero, suc, _+_, _*_, _/_, _<_, _≤_}
 use mathlib.Core.Path.{_≡_, refl, sym, _∙_}
-use mathlib.Core.Logic.{_⊎_, inl, inr, ⊎-elim}
+use mathlib.Core.Logic.{⊎-elim}
 use mathlib.Core.Bool.{Bool, true, false, _&&_, _||_}
 use native.Mathlib.Omega.{arith}
 use native.Mathlib.Nat.{eq-or-lt-of-le, le-of-suc-le-suc, not-suc-le-zero}
 use native.Mathlib.Numerals.{add-one}
 use lib.ListN.{length, getD}
-use lib.Dec.{ltb, leb, lit≤}
+use lib.Dec.{ltb, leb, eqb}
 use Rattle.refusal.specs.declared.Refusal.the-variants.{Malformed}
 use Rattle.refusal.specs.declared.Verdict.the-variants.{Accepted, Refused}
 use Rattle.lists.specs.declared.Node.{Node}
-use Rattle.lists.specs.Lists.{Lists, nodeOf, isItem, pastEnd, rowFault, anyRowFault, nodeFault, nodesTo}
-use borrow.Author.Tests.{lt-ltb, le-ltb, le-leb, lt-leb, eq-eqb, ne-eqb, ltb-true, ltb-false}
+use Rattle.lists.specs.Kinds.{isUnknown, readsState, isItem}
+use Rattle.lists.specs.Lists.{Lists, nodeOf, pastEnd, rowFault, anyRowFault, nodeFault, nodesTo}
+use borrow.Author.Tests.{lt-ltb, le-ltb, lt-leb, leb-false, eq-eqb, ne-eqb, ltb-true, ltb-false}
 
 -- two tests that hold together are one
 same-test : (a b c d : ℕ) → (a < b → c < d) → (b ≤ a → d ≤ c) → ltb a b ≡ ltb c d
@@ -64,51 +65,41 @@ module _ (l : Lists) (i : ℕ) where
       ⊎-elim (λ (e : r ≡ rows). rw (← e, ← f) (or-true (anyRowFault l i r))) (λ (g : r < rows). rw (← (row-found rows r g f)) refl)
       (eq-or-lt-of-le (le-of-suc-le-suc h))
 
--- kinds from 4 on: none of those before is left
-pub from-four : (kind : ℕ) → ((kind ≡ 0) ⊎ (kind ≡ 2) → ⊥) → (kind ≡ 1 → ⊥) → (kind ≡ 3 → ⊥) → 4 ≤ kind
-from-four kind a b d =
-    let z : kind ≡ 0 → ⊥ = λ e. a (inl e) in let t : kind ≡ 2 → ⊥ = λ e. a (inr e) in omega arith
-
-pub items : (kind : ℕ) → 4 ≤ kind → kind < 7 → isItem kind ≡ true
-items kind low high = let h : kind ≤ 6 = omega arith in rw (le-leb 4 kind, le-leb kind 6)
-
--- kinds whose state alone is read: 3, and 7 to 10
-pub stated-alone : (kind : ℕ) → (kind ≡ 3) ⊎ ((7 ≤ kind) × (kind < 11)) → (3 ≤ kind) × (kind ≤ 10) × (isItem kind ≡ false)
-stated-alone kind (inl e) = rw e (lit≤ tt, lit≤ tt, refl)
-stated-alone kind (inr h) = let g : 4 ≤ kind = omega arith in (omega arith, omega arith, rw (le-leb 4 kind, lt-leb kind 6 (h .0)))
-
--- what can be wrong at a node, by its kind
+-- what can be wrong at a node, by what its kind is
 module _ (banks : ℕ) (l : Lists) (i : ℕ) {kind : ℕ} (k : kind ≡ getD (l .kinds) i 0) where
-  unread-row : (r : ℕ) → getD (l .kinds) i 0 ≤ 2 → rowFault (length (l .values)) (shown l i r) ≡ false
-  unread-row r h = let g : getD (l .kinds) i 0 < 4 = omega arith in rw (le-ltb 2 (getD (l .kinds) i 0), lt-leb 4 (getD (l .kinds) i 0))
+  unread-row : (r : ℕ) → readsState (getD (l .kinds) i 0) ≡ false → rowFault (length (l .values)) (shown l i r) ≡ false
+  unread-row r e =
+      let h = leb-false 3 (getD (l .kinds) i 0) e in
+      let g : getD (l .kinds) i 0 < 4 = omega arith in
+      rw (e, lt-leb 4 (getD (l .kinds) i 0))
 
-  unread-rows : (r : ℕ) → getD (l .kinds) i 0 ≤ 2 → anyRowFault l i r ≡ false
+  unread-rows : (r : ℕ) → readsState (getD (l .kinds) i 0) ≡ false → anyRowFault l i r ≡ false
   unfolding anyRowFault
-  unread-rows zero h = refl
-  unread-rows (suc r) h = rw (unread-rows r h, unread-row r h)
+  unread-rows zero e = refl
+  unread-rows (suc r) e = rw (unread-rows r e, unread-row r e)
 
-  pub no-fault : (kind ≡ 0) ⊎ (kind ≡ 2) → false ≡ nodeFault banks l i
-  no-fault e =
-      let h : getD (l .kinds) i 0 ≤ 2 = ⊎-elim (λ (z : kind ≡ 0). omega arith) (λ (t : kind ≡ 2). omega arith) e in
-      let g : getD (l .kinds) i 0 ≤ 10 = omega arith in
-      let n : getD (l .kinds) i 0 ≡ 1 → ⊥ = ⊎-elim (λ (z : kind ≡ 0). λ o. omega arith) (λ (t : kind ≡ 2). λ o. omega arith) e in
-      rw (le-ltb 10 (getD (l .kinds) i 0), ne-eqb (getD (l .kinds) i 0) 1 n, unread-rows (l .rows) h)
+  pub kind-fault : isUnknown kind ≡ true → true ≡ nodeFault banks l i
+  kind-fault e = let f : isUnknown (getD (l .kinds) i 0) ≡ true = rw k at e in rw f
 
-  pub switch-fault : kind ≡ 1 → {operand x : ℕ} → operand ≡ getD (l .operands) i 0 → x ≡ operand → leb banks x ≡ nodeFault banks l i
-  switch-fault e o w =
-      let f : getD (l .kinds) i 0 ≡ 1 = omega arith in
-      let h : getD (l .kinds) i 0 ≤ 2 = omega arith in
-      let g : getD (l .kinds) i 0 ≤ 10 = omega arith in
-      rw (w, o, le-ltb 10 (getD (l .kinds) i 0), eq-eqb (getD (l .kinds) i 0) 1 f, unread-rows (l .rows) h) (or-false _)
+  module _ (u : isUnknown kind ≡ false) where
+    known : isUnknown (getD (l .kinds) i 0) ≡ false
+    known = rw k at u
 
-  pub rows-fault : 3 ≤ kind → kind ≤ 10 → {t : Bool} → t ≡ anyRowFault l i (l .rows) → t ≡ nodeFault banks l i
-  rows-fault low high e =
-      let n : getD (l .kinds) i 0 ≡ 1 → ⊥ = λ o. omega arith in
-      let g : getD (l .kinds) i 0 ≤ 10 = omega arith in
-      rw (le-ltb 10 (getD (l .kinds) i 0), ne-eqb (getD (l .kinds) i 0) 1 n) e
+    pub switch-fault : kind ≡ 1 → {operand x : ℕ} → operand ≡ getD (l .operands) i 0 → x ≡ operand → leb banks x ≡ nodeFault banks l i
+    switch-fault e o w =
+        let f : getD (l .kinds) i 0 ≡ 1 = omega arith in
+        let s : readsState (getD (l .kinds) i 0) ≡ false = rw f in
+        rw (w, o, known, eq-eqb (getD (l .kinds) i 0) 1 f, unread-rows (l .rows) s) (or-false _)
 
-  pub kind-fault : 10 < kind → true ≡ nodeFault banks l i
-  kind-fault h = let g : 10 < getD (l .kinds) i 0 = omega arith in rw (lt-ltb 10 (getD (l .kinds) i 0))
+    module _ (n : kind ≡ 1 → ⊥) where
+      no-switch : eqb (getD (l .kinds) i 0) 1 ≡ false
+      no-switch = ne-eqb (getD (l .kinds) i 0) 1 (λ e. n (k ∙ e))
+
+      pub no-fault : readsState kind ≡ false → false ≡ nodeFault banks l i
+      no-fault e = let f : readsState (getD (l .kinds) i 0) ≡ false = rw k at e in rw (known, no-switch, unread-rows (l .rows) f)
+
+      pub rows-fault : {t : Bool} → t ≡ anyRowFault l i (l .rows) → t ≡ nodeFault banks l i
+      rows-fault e = rw (known, no-switch) e
 
 -- the verdict on the nodes, one after the other
 module _ (banks : ℕ) (l : Lists) where

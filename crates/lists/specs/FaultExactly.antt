@@ -3,6 +3,7 @@ use Prim.Native.Nat.{ℕ, _+_, _*_, _<_, _≤_}
 use mathlib.Core.Path.{_≡_}
 use lib.ListN.{getD, length}
 use Rattle.lists.specs.declared.Node.{Node}
+use Rattle.lists.specs.Kinds.{lastKind}
 use Rattle.lists.specs.Lists.{Lists, nodeOf}
 
 -- node i as row r shows it
@@ -12,7 +13,7 @@ shownIn l r i = nodeOf (l .kinds) (l .operands) (l .numbers) (l .states) r i
 -- Node i of the lists is malformed, in a table of so many banks.
 pub data FaultAt (banks : ℕ) (l : Lists) (i : ℕ) : Type 0 where
   -- "Any other kind number is refused."
-  otherKind : 10 < getD (l .kinds) i 0 → FaultAt banks l i
+  otherKind : lastKind < getD (l .kinds) i 0 → FaultAt banks l i
   -- "The operand is a bank for 1"
   otherBank : getD (l .kinds) i 0 ≡ 1 → banks ≤ getD (l .operands) i 0 → FaultAt banks l i
   -- "state (0 resolved, 1 stable, 2 unresolved)"; "0, 1 and 2 don't read the state"

@@ -1,4 +1,5 @@
 pub mod FaultExactly
+pub mod Kinds
 pub mod Lists
 pub mod Sound
 pub mod Theorems

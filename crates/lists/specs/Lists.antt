@@ -11,6 +11,7 @@ use Rattle.refusal.specs.declared.Refusal.the-variants.{Malformed}
 use Rattle.refusal.specs.declared.Verdict.{Verdict}
 use Rattle.refusal.specs.declared.Verdict.the-variants.{Accepted, Refused}
 use Rattle.lists.specs.declared.Node.{Node}
+use Rattle.lists.specs.Kinds.{isUnknown, isSwitch, isItem, isDeclared, readsState}
 
 -- The lent lists: a kind and an operand for each node; a number and a state for each node of each row, row after row; the value bytes.
 pub record Lists : Type 0 where
@@ -44,7 +45,7 @@ rowAt l r = rowOf (length (l .kinds)) (l .numbers) (l .states) r
 
 -- "Kind 5 takes its number from the first row."
 abbrev pub numberAt : List ℕ → List ℕ → Row → ℕ → ℕ
-numberAt kinds first row i = pick (eqb (getD kinds i 0) 5) (getD first i 0) (getD (row .numbers) i 0)
+numberAt kinds first row i = pick (isDeclared (getD kinds i 0)) (getD first i 0) (getD (row .numbers) i 0)
 
 -- node i as a row shows it; `first` is the first row's numbers
 abbrev pub nodeAt : List ℕ → List ℕ → List ℕ → Row → ℕ → Node
@@ -62,10 +63,6 @@ abbrev pub nodeOf : List ℕ → List ℕ → List ℕ → List ℕ → ℕ → 
 nodeOf kinds operands numbers states r i =
     nodeAt kinds operands (rowOf (length kinds) numbers states 0 .numbers) (rowOf (length kinds) numbers states r) i
 
--- "a starting bit in the value bytes for 4 to 6"
-abbrev pub isItem : ℕ → Bool
-isItem kind = leb 4 kind && leb kind 6
-
 -- "The item's starting bit plus its number must not pass the end of the value bytes"
 abbrev pub pastEnd : ℕ → Node → Bool
 pastEnd bytes node = ltb (8 * bytes) (node .operand + node .number)
@@ -73,11 +70,11 @@ pastEnd bytes node = ltb (8 * bytes) (node .operand + node .number)
 -- "state (0 resolved, 1 stable, 2 unresolved)"; "0, 1 and 2 don't read the state". "The item's starting bit plus its number must not pass the end
 -- of the value bytes, in any row."
 abbrev pub rowFault : ℕ → Node → Bool
-rowFault bytes node = (ltb 2 (node .kind) && ltb 2 (node .state)) || (isItem (node .kind) && pastEnd bytes node)
+rowFault bytes node = (readsState (node .kind) && ltb 2 (node .state)) || (isItem (node .kind) && pastEnd bytes node)
 
 -- "Any other kind number is refused. The operand is a bank for 1"
 abbrev pub headFault : ℕ → Node → Bool
-headFault banks node = ltb 10 (node .kind) || (eqb (node .kind) 1 && leb banks (node .operand))
+headFault banks node = isUnknown (node .kind) || (isSwitch (node .kind) && leb banks (node .operand))
 
 -- whether a row below `rows` is at fault at node i
 unfoldable pub anyRowFault : Lists → ℕ → ℕ → Bool

@@ -1,14 +1,17 @@
 // The lent lists: a node as a row shows it, and the list check.
-use refusal::ASSERT;
-use refusal::CONSTANT;
+mod kinds;
+
+pub use kinds::Doing;
+pub use kinds::does;
+pub use kinds::is_placed;
+pub use kinds::is_span;
+pub use kinds::is_unknown;
+pub use kinds::is_written;
+pub use kinds::reads_state;
+pub use kinds::size_of;
 use refusal::DATA;
-use refusal::INSTRUCTION;
-use refusal::LABEL;
 use refusal::MAX_NODES;
 use refusal::MAX_ROWS;
-use refusal::NOTHING;
-use refusal::OPEN_DATA;
-use refusal::RESERVE;
 use refusal::Refusal;
 use refusal::SWITCH;
 use refusal::Verdict;
@@ -18,7 +21,8 @@ ghost use Prim.Native.Nat.{_<_};
 ghost use lib.Dec.{ltb};
 ghost use lib.ListN.{getD, length};
 ghost use Rattle.lists.specs.Sound.{ListFigures};
-ghost use Rattle.lists.specs.Lists.{lists, rowWith, nodeAt, nodeOf, isItem, pastEnd, anyRowFault, nodeFault, nodesTo, listsOf, Rows};
+ghost use Rattle.lists.specs.Kinds.{isItem};
+ghost use Rattle.lists.specs.Lists.{lists, rowWith, nodeAt, nodeOf, pastEnd, anyRowFault, nodeFault, nodesTo, listsOf, Rows};
 
 // A node as a row shows it: its number in the list, kind, operand, and the row's number and state for it.
 pub struct Node {
@@ -156,8 +160,7 @@ fn any_row_fault(
     false
 }
 
-// What can be wrong at node `i`. "Any other kind number is refused"; a bank switch names a bank; states are read from kind 3 on, value
-// ranges are the items'.
+// What can be wrong at node `i`. "Any other kind number is refused"; a bank switch names a bank; a state is read, and a value range where it is an item's.
 fn node_fault(
     banks: u64,
     kinds: &[u8],
@@ -174,31 +177,25 @@ fn node_fault(
         i ⌝ }
 {
     let kind = byte_at(kinds, i);
-    match kind {
-        NOTHING | LABEL => false,
-        SWITCH => banks <= wide(number_at(operands, i)),
-        INSTRUCTION..=OPEN_DATA => any_row_fault(
-            true,
-            kinds,
-            operands,
-            numbers,
-            states,
-            rows,
-            values,
-            i,
-        ),
-        CONSTANT | RESERVE..=ASSERT => any_row_fault(
-            false,
-            kinds,
-            operands,
-            numbers,
-            states,
-            rows,
-            values,
-            i,
-        ),
-        _ => true,
+    if is_unknown(kind) {
+        return true;
     }
+    if kind == SWITCH {
+        return banks <= wide(number_at(operands, i));
+    }
+    if !reads_state(kind) {
+        return false;
+    }
+    any_row_fault(
+        is_written(kind),
+        kinds,
+        operands,
+        numbers,
+        states,
+        rows,
+        values,
+        i,
+    )
 }
 
 fn malformed(place: u64) -> Verdict

@@ -17,13 +17,14 @@ use Rattle.refusal.specs.declared.Place.the-variants.{One}
 use Rattle.refusal.specs.Told.{gives, refuses}
 use Rattle.refusal.specs.declared.Offset.{Offset}
 use Rattle.refusal.specs.declared.Offset.the-variants.{None as Nowhere, At as Out}
+use Rattle.lists.specs.Kinds.{isItem}
 use Rattle.lists.specs.declared.Node.{Node}
 use Rattle.refusal.specs.declared.Verdict.{Verdict}
 use Rattle.refusal.specs.declared.Verdict.the-variants.{Accepted, Refused as TurnedAway}
 use Rattle.bankdef.specs.Check.{banksOf, checkOf}
 use Rattle.bankdef.specs.Fill.{fillBy}
 use Rattle.bankdef.specs.declared.Bankdefs.{Bankdefs}
-use Rattle.lists.specs.Lists.{Lists, Row, Rows, rowAt, isItem, pastEnd, rowFault, nodeOf, nodesTo, listsOf, rowWith}
+use Rattle.lists.specs.Lists.{Lists, Row, Rows, rowAt, pastEnd, rowFault, nodeOf, nodesTo, listsOf, rowWith}
 use Rattle.resolver.specs.Once.{Program, node, programWith}
 use Rattle.resolver.specs.Passes.{program, rowOfPass, resolutionOf}
 use Rattle.resolver.specs.Layout.{unless, layoutOf}

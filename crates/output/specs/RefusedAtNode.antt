@@ -12,12 +12,12 @@ use Rattle.refusal.specs.declared.Verdict.the-variants.{Refused as TurnedAway}
 use Rattle.refusal.specs.declared.Opt.the-variants.{None, Some}
 use Rattle.iter.specs.declared.Pos.{Pos}
 use Rattle.iter.specs.declared.Moved.the-variants.{To}
+use Rattle.lists.specs.Kinds.{sizeOf}
 use Rattle.resolver.specs.declared.Settled.the-variants.{At}
 use Rattle.overlap_checker.specs.declared.Entry.{Entry}
 use Rattle.overlap_checker.specs.State.{State, answer}
 use Rattle.build_sights.specs.declared.Visit.{Visit}
 use Rattle.build_sights.specs.Items.{isWritten}
-use Rattle.build_sights.specs.Spans.{sizeOf}
 use Rattle.build_plan.specs.Placing.{isPlaced, usesDefault, endsPast, lacksOutput, offerOf, offersOf}
 use Rattle.build_plan.specs.Placing.{answered}
 use Rattle.build_plan.specs.Placing.{holds, stops, placedAll}

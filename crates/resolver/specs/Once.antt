@@ -18,6 +18,7 @@ use Rattle.iter.specs.declared.Walk.{Walk}
 use Rattle.iter.specs.declared.Stepped.{Stepped}
 use Rattle.iter.specs.declared.Moved.{Moved}
 use Rattle.iter.specs.declared.Moved.the-variants.{To, Refused as Stopped}
+use Rattle.lists.specs.Kinds.{isLabel}
 use Rattle.lists.specs.Lists.{Row, nodeAt}
 use Rattle.resolver.specs.declared.Pass.{Pass}
 use Rattle.resolver.specs.declared.Pass.the-variants.{State, Refused}
@@ -67,7 +68,7 @@ labelState def now before isFirst =
 
 -- "Kinds .. 0, 1 and 2 don't read the state": a node's state in a pass
 abbrev pub stateOf : Node → ℕ → ℕ
-stateOf n label = pick (leb (n .kind) 1) 0 (pick (eqb (n .kind) 2) label (n .state))
+stateOf n label = pick (leb (n .kind) 1) 0 (pick (isLabel (n .kind)) label (n .state))
 
 -- A pass under way: the walk and the states merged so far; or the first refusal.
 pub data Going : Type 0 where
@@ -76,7 +77,7 @@ pub data Going : Type 0 where
 
 -- "7: a label in the last pass is off an address boundary"
 abbrev pub offBoundary : Bankdef → Node → Pos → Bool → Bool
-offBoundary def n now isLast = isLast && (eqb (n .kind) 2 && not (onBoundary def (now .position)))
+offBoundary def n now isLast = isLast && (isLabel (n .kind) && not (onBoundary def (now .position)))
 
 -- "A pass is unresolved if any state is 2, stable if any is 1, otherwise resolved": the largest state, with what a node adds to it
 abbrev pub met : Bankdef → Node → Moved → Bool → Bool → ℕ → Moved → Pass

@@ -1,7 +1,6 @@
 -- Padding figures (document 02, Ticket 2): a bank's padding as a plain sum over the nodes that stand in it, and that the walk carries it.
 use Prim.Native.Nat.{ℕ, zero, suc, _+_, _/_}
-use mathlib.Core.Bool.{_&&_}
-use lib.Dec.{eqb, leb}
+use lib.Dec.{eqb}
 use lib.ListN.{length}
 use Rattle.refusal.specs.Pick.{pick}
 use Rattle.refusal.specs.declared.Opt.{Opt}
@@ -11,6 +10,7 @@ use Rattle.iter.specs.Distance.{addressInBits, distanceTo}
 use Rattle.iter.specs.Step.{outermostSymbol}
 use Rattle.iter.specs.StepCases.{standing}
 use Rattle.iter.specs.declared.Lost.{Lost}
+use Rattle.lists.specs.Kinds.{isAlign}
 use Rattle.lists.specs.declared.Node.{Node}
 use Rattle.resolver.specs.KnownInPass.{bankAt}
 use Rattle.lists.specs.Lists.{Row}
@@ -35,11 +35,7 @@ sightLoses def position n = pick (outermostSymbol n) (labelLoses def (def .align
 -- "bits lost to `align` and to label alignment" by a node, from the position of the bank that it stands in. "An `addr` that moves the position is not
 -- padding", and no other node loses any.
 abbrev pub lostBy : Bankdef → ℕ → Node → ℕ
-lostBy def position n = pick (eqb (n .kind) 8) (distanceIn def position (n .number)) (sightLoses def position n)
-
--- the bits of an item (4, 5, 6) or a reserve (7)
-abbrev pub sizeBy : Node → ℕ
-sizeBy n = pick (leb 4 (n .kind) && leb (n .kind) 7) (n .number) 0
+lostBy def position n = pick (isAlign (n .kind)) (distanceIn def position (n .number)) (sightLoses def position n)
 
 module _ (p : Program) (row : Row) where
   -- that bank's position before the node

@@ -2,10 +2,11 @@
 use Prim.Native.Nat.{ℕ, _+_, _*_, _≤_, _<_}
 use mathlib.Core.Path.{_≡_}
 use lib.ListN.{getD, length}
+use Rattle.lists.specs.Kinds.{lastKind, ReadsNumber}
 use Rattle.lists.specs.Lists.{Lists}
 
--- Lists with the same kinds and rows, as long as each other, that agree wherever a kind reads: operands of kinds 1 to 6; numbers of kinds 4 to 9,
--- but of kind 5 in the first row alone; states of kinds 3 to 10. Of the value bytes a layout reads how many there are.
+-- Lists with the same kinds and rows, as long as each other, that agree wherever a kind reads: operands of kinds 1 to 6; numbers where a kind reads it,
+-- but of kind 5 in the first row alone; states from kind 3 on. Of the value bytes a layout reads how many there are.
 pub record AgreeWhereRead (l m : Lists) : Type 0 where
   pub kinds : l .kinds ≡ m .kinds
   pub rows : l .rows ≡ m .rows
@@ -18,8 +19,7 @@ pub record AgreeWhereRead (l m : Lists) : Type 0 where
       (r i : ℕ)
       → r < m .rows
       → i < length (m .kinds)
-      → 4 ≤ getD (m .kinds) i 0
-      → getD (m .kinds) i 0 ≤ 9
+      → ReadsNumber (getD (m .kinds) i 0)
       → (getD (m .kinds) i 0 ≡ 5 → r ≡ 0)
       → getD (l .numbers) (r * length (m .kinds) + i) 0 ≡ getD (m .numbers) (r * length (m .kinds) + i) 0
   pub states :
@@ -27,5 +27,5 @@ pub record AgreeWhereRead (l m : Lists) : Type 0 where
       → r < m .rows
       → i < length (m .kinds)
       → 3 ≤ getD (m .kinds) i 0
-      → getD (m .kinds) i 0 ≤ 10
+      → getD (m .kinds) i 0 ≤ lastKind
       → getD (l .states) (r * length (m .kinds) + i) 0 ≡ getD (m .states) (r * length (m .kinds) + i) 0

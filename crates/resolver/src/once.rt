@@ -13,14 +13,13 @@ use iter::pace;
 use iter::why_refused;
 use lists::Node;
 use lists::node_at;
+use lists::reads_state;
 use refusal::LABEL;
 use refusal::MAX_BANKS;
-use refusal::NOTHING;
 use refusal::Opt;
 use refusal::RESOLVED;
 use refusal::Refusal;
 use refusal::STABLE;
-use refusal::SWITCH;
 use refusal::UNRESOLVED;
 ghost use mathlib.Core.Path.{_≡_};
 ghost use mathlib.Core.Bool.{true};
@@ -102,11 +101,13 @@ fn node_state(def: Bankdef, node: Node, now: Pos, before: Paced, is_first: bool)
     ensures { λ r. ⌜ r ≡ stateOf node (labelState def now (seenBy before 0) «is_first») ⌝ }
 {
     let kind = node.kind;
-    match kind {
-        NOTHING | SWITCH => RESOLVED,
-        LABEL => label_state(def, now, before, is_first),
-        _ => node.state,
+    if kind == LABEL {
+        return label_state(def, now, before, is_first);
     }
+    if reads_state(kind) {
+        return node.state;
+    }
+    RESOLVED
 }
 
 // "7: a label in the last pass is off an address boundary"

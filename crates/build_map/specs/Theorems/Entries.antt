@@ -7,7 +7,7 @@ use native.Mathlib.Omega.{arith}
 use lib.ListN.{getD}
 use Rattle.refusal.specs.Limits.{maxNodes}
 use Rattle.blocks.specs.Offsets.{wordOf}
-use Rattle.resolver.specs.Padding.{sizeBy}
+use Rattle.lists.specs.Kinds.{sizeOf}
 use Rattle.lists.specs.Theorems.Sound.{accepted-lists}
 use Rattle.output.specs.Output.{passesOf}
 use Rattle.build_map.specs.Calls.{Call, programIn, rowIn, nodesIn, visitIn}
@@ -31,7 +31,7 @@ module _ (c : Call) where
       ∙ shown-at (c .answer .nodes) (outputShown (programIn c) (rowIn c)) (c .old .outputs) i h
 
   -- the bits of an item or a reserve
-  pub entry-is-size : (i : ℕ) → i < c .answer .nodes → getD (c .new .sizes) i 0 ≡ sizeBy (visitIn c i .node)
+  pub entry-is-size : (i : ℕ) → i < c .answer .nodes → getD (c .new .sizes) i 0 ≡ sizeOf (visitIn c i .node)
   entry-is-size i h =
       ap (λ (l : Lent). getD (l .sizes) i 0) (c .meets .left)
       ∙ shown-at (c .answer .nodes) (sizeShown (programIn c) (rowIn c)) (c .old .sizes) i h

@@ -23,6 +23,7 @@ use Rattle.iter.specs.declared.Moved.the-variants.{To, Refused as Stopped}
 use Rattle.iter.specs.declared.Pos.{Pos}
 use Rattle.resolver.specs.Laws.Ends.{Ending, early, last, ends}
 use Rattle.resolver.specs.Layout.{unless, layoutOf}
+use Rattle.lists.specs.Kinds.{sizeOf}
 use Rattle.lists.specs.Lists.{Lists, Row, listsOf, firstOf}
 use Rattle.resolver.specs.Theorems.NodeOrder.{StopsAt, first-met}
 use Rattle.resolver.specs.NodeOrder.{seenAt, defAt}
@@ -46,7 +47,7 @@ use Rattle.output.specs.Output.{Figures, roomTold, placedTold, settledTold}
 use Rattle.build_plan.specs.Placing.{isPlaced, usesDefault, endsPast, lacksOutput, checked, answered, placing, verdictSeen, verdictOn, offerOf}
 use Rattle.build_plan.specs.Placing.{Placed, holds, stops, placedIf, placedNext, placedFrom, placedAll}
 use Rattle.build_plan.specs.Laws.PlacingLaws.{placed-last}
-use Rattle.build_sights.specs.Spans.{sizeOf, spansOf}
+use Rattle.build_sights.specs.Spans.{spansOf}
 use Rattle.build_sights.specs.Visits.{visitAt, visitsTo}
 use Rattle.build_sights.specs.declared.Visit.{Visit}
 use Rattle.build_profile.specs.Laws.Exactly.{numberIs, table-low, lists-low}

@@ -5,24 +5,23 @@ use mathlib.Core.Bool.{Bool, true, false, _&&_}
 use native.Mathlib.Omega.{arith}
 use lib.Dec.{eqb}
 use lib.ListN.{length, length-take, List·getD-eq-default}
-use borrow.Author.Tests.{ne-eqb}
 use Rattle.refusal.specs.Laws.Bools.{unlike, or-right}
 use Rattle.refusal.specs.Pick.{pick}
-use Rattle.refusal.specs.Laws.Pick.{pick-true, pick-false}
+use Rattle.refusal.specs.Laws.Pick.{pick-true}
 use Rattle.refusal.specs.declared.Opt.the-variants.{None, Some}
 use Rattle.refusal.specs.declared.Refusal.the-variants.{DefaultBank, PastBank, NoOutput}
 use Rattle.refusal.specs.declared.Verdict.the-variants.{Accepted as Fine, Refused}
 use Rattle.bankdef.specs.Check.{noBank, banksOf}
 use Rattle.bankdef.specs.declared.Bankdefs.{Bankdefs}
 use Rattle.iter.specs.declared.Moved.{Moved}
+use Rattle.lists.specs.Kinds.{sizeOf}
+use Rattle.lists.specs.Laws.Kinds.{written-adds}
 use Rattle.resolver.specs.Once.{bankRecord}
 use Rattle.overlap_checker.specs.State.{State}
 use Rattle.build_sights.specs.Items.{isWritten}
-use Rattle.build_plan.specs.Theorems.Kinds.{written-exactly}
 use Rattle.build_plan.specs.Placing.{isPlaced, isOffered, usesDefault, endsPast, lacksOutput, checked, answered, tried, offerOf, verdictOn}
 use Rattle.build_plan.specs.Laws.PlacingLaws.{passed, seen-placing}
 use Rattle.build_plan.specs.Theorems.PlacingLaws.{checked-opens}
-use Rattle.build_sights.specs.Spans.{sizeOf}
 use Rattle.build_sights.specs.Visits.{seenPos, positionOf}
 use Rattle.build_sights.specs.declared.Visit.{Visit}
 use Rattle.build_profile.specs.Laws.RuleLaws.{both-kept}
@@ -30,9 +29,7 @@ use Rattle.build_profile.specs.Laws.RuleLaws.{both-kept}
 -- ---- an accepted visit passed 10
 
 written-size : (v : Visit) → isWritten (v .node) ≡ true → sizeOf (v .node) ≡ v .node .number
-written-size v w =
-    let kind = written-exactly (v .node) .0 w in
-    pick-false _ _ (ne-eqb (v .node .kind) 2 (λ e. omega (arith, kind .0)))
+written-size v w = pick-true (v .node .number) 0 (written-adds (v .node .kind) w)
 
 pub fits : (closed : Bool) (s : State) (v : Visit) → verdictOn closed s v ≡ Fine → isWritten (v .node) ≡ true
     → endsPast (v .def .size) (positionOf v + v .node .number) ≡ false

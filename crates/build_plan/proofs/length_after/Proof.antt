@@ -10,7 +10,7 @@ use Rattle.build_plan.proofs.length_after.Statement.{statement}
 use Rattle.build_plan.proofs.length_after.Tie as tie
 use Rattle.build_plan.proofs.length_after.Reads as reads
 use Rattle.build_plan.proofs.length_after.Lts as lts
-use Rattle.build_sights.proofs.is_written.Reads as is-written-reads
+use Rattle.lists.proofs.is_written.Reads as is-written-reads
 
 returns : tie.Need-returns
 returns c =

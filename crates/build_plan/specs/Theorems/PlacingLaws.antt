@@ -7,10 +7,10 @@ use Rattle.refusal.specs.declared.Refusal.the-variants.{DefaultBank, PastBank, 
 use Rattle.refusal.specs.declared.Verdict.the-variants.{Accepted, Refused}
 use Rattle.refusal.specs.declared.Offset.{Offset}
 use Rattle.bankdef.specs.declared.Bankdef.{Bankdef}
+use Rattle.lists.specs.Kinds.{sizeOf}
 use Rattle.lists.specs.declared.Node.{Node}
 use Rattle.iter.specs.declared.Pos.{Pos}
 use Rattle.build_sights.specs.Items.{isWritten}
-use Rattle.build_sights.specs.Spans.{sizeOf}
 use Rattle.build_plan.specs.Placing.{usesDefault, endsPast, lacksOutput, checked}
 
 -- 9, 10 and 11 in this order

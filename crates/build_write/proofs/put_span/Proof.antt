@@ -50,11 +50,11 @@ returns-2 : tie.Need-returns-2
 returns-2 c =
     let e = spans (c .before .before .before) in
     let fits : SFits w64 (c .before .before .address-of .result) = record { sfits = c .before .before .address-of .ok } in
-    (rw e, (rw (e, toZ-ofZ w64 _ fits, c .before .before .address-of .ensures), (rw (e, c .before .word-of .ensures), rw (e, c .size-of .ensures .0))))
+    (rw e, (rw (e, toZ-ofZ w64 _ fits, c .before .before .address-of .ensures), (rw (e, c .before .word-of .ensures), rw (e, c .size-of .ensures))))
 
 pub put-span-spec : {M : Type 1} → statement M
 put-span-spec =
     tie.close
     (tie.spec
     (λ c κs. search needs) returns (λ c κs. search needs) mul-t12 slice-set-from-addresses (λ c κs. search needs) mul-offsets slice-write-offsets
-    (λ c κs. search needs) mul-sizes slice-write-sizes add-result (λ c. search needs) (λ c. search needs) (λ c. search needs) returns-2)
+    (λ c κs. search needs) (λ c. search needs) mul-sizes slice-write-sizes add-result (λ c. search needs) (λ c. search needs) (λ c. search needs) returns-2)

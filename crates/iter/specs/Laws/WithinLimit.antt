@@ -1,9 +1,9 @@
 -- Laws that Theorems/WithinLimit rests on.
 use Prim.Native.Nat.{ℕ, zero, suc, _+_, _≤_, zero-le}
 use mathlib.Core.Path.{_≡_, refl}
-use mathlib.Core.Bool.{Bool, true, false, _&&_}
+use mathlib.Core.Bool.{Bool, true, false}
 use mathlib.Core.List.{List, [], _∷_}
-use lib.Dec.{eqb, leb}
+use lib.Dec.{leb}
 use lib.ListN.{getD, set, replicate}
 use borrow.Author.Tests.{leb-true}
 use Rattle.refusal.specs.Limits.{maxPosition}
@@ -12,11 +12,13 @@ use Rattle.refusal.specs.declared.Opt.{Opt}
 use Rattle.refusal.specs.declared.Opt.the-variants.{None, Some}
 use Rattle.bankdef.specs.declared.Bankdef.{Bankdef}
 use Rattle.iter.specs.Distance.{distanceOf}
-use Rattle.iter.specs.Step.{origin, movedBy, movedByDistance, alignedTo, outermostSymbol, labelAligned, seenOf, resolved, badState}
+use Rattle.iter.specs.Step.{origin, movedBy, movedByDistance, alignedTo, outermostSymbol, labelAligned, seenOf, badState}
 use Rattle.iter.specs.Step.{movedOn, advancedOf}
 use Rattle.iter.specs.declared.Distance.{Distance}
 use Rattle.iter.specs.declared.Distance.the-variants.{Skips, Refused as NoDistance}
 use Rattle.iter.specs.declared.Pos.{Pos}
+use Rattle.lists.specs.Kinds.{doesOf}
+use Rattle.lists.specs.Laws.Kinds.{in-each}
 use Rattle.lists.specs.declared.Node.{Node}
 use Rattle.iter.specs.declared.Moved.{Moved}
 use Rattle.iter.specs.declared.Moved.the-variants.{To, Refused}
@@ -56,13 +58,10 @@ module _ (def : Bankdef) (at : Pos) (node : Node) (small : Small at) where
   pub advanced-within : node .number ≤ maxPosition → Within (advancedOf def at node)
   unfolding advancedOf movedOn
   advanced-within h =
-      let known = at .known && resolved node in
       either Within (badState node) _ _ (λ e. tt)
-      (λ e. either Within (eqb (node .kind) 5) _ _ (λ e. moved-within at (node .number) (at .known) (node .index))
-      (λ e. either Within (leb 4 (node .kind) && leb (node .kind) 7) _ _ (λ e. moved-within at (node .number) known (node .index))
-      (λ e. either Within (eqb (node .kind) 8) _ _ (λ e. aligned-within def at (node .number) known (node .index))
-      (λ e. either Within (eqb (node .kind) 9) _ _ (λ e. h)
-      (λ e. either Within (leb (node .kind) 10) _ _ (λ e. small) (λ e. tt))))))
+      (λ e.
+      in-each Within (doesOf (node .kind)) small (moved-within at (node .number) _ (node .index))
+      (aligned-within def at (node .number) _ (node .index)) h tt)
 
 -- what holds of each element of a list, and of one that is put in, holds of each element afterwards
 pub set-all : {A : Type 0} (P : A → Type 0) (l : List A) (i : ℕ) (q d : A) → P q → ((j : ℕ) → P (getD l j d)) → (j : ℕ) → P (getD (set l i q) j d)

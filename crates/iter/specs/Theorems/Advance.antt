@@ -1,10 +1,10 @@
 -- The definition of an advance followed kind by kind, and of a step by what the node sees and where it moves.
 use Prim.Native.Nat.{_≤_, _<_}
-use mathlib.Core.Path.{_≡_}
-use mathlib.Core.Bool.{true, false, _&&_}
+use mathlib.Core.Path.{_≡_, sym, ap}
+use mathlib.Core.Bool.{true, false}
+use mathlib.Core.Logic.{inl, inr}
+use native.Mathlib.Decide.{decLe}
 use native.Mathlib.Omega.{arith}
-use lib.Dec.{eqb}
-use borrow.Author.Tests.{le-leb, lt-leb}
 use Rattle.refusal.specs.Laws.Pick.{pick-true, pick-false}
 use Rattle.refusal.specs.declared.Refusal.the-variants.{Malformed}
 use Rattle.bankdef.specs.declared.Bankdef.{Bankdef}
@@ -12,10 +12,22 @@ use Rattle.iter.specs.Known.{staysKnown}
 use Rattle.iter.specs.Step.{movedBy, alignedTo, resolved, badState, movedOn, advancedOf}
 use Rattle.iter.specs.declared.Pos.{Pos}
 use Rattle.lists.specs.declared.Node.{Node}
+use Rattle.lists.specs.declared.kinds.Doing.{Doing}
+use Rattle.lists.specs.Kinds.{doesOf, byDoing}
+use Rattle.lists.specs.Laws.Kinds.{does-stay, does-switch, does-mark, does-add, does-align, does-set, does-nothing-known}
+use Rattle.iter.specs.declared.Moved.{Moved}
 use Rattle.iter.specs.declared.Moved.the-variants.{To, Refused}
-use Rattle.iter.specs.Laws.Advance.{chosen, not-at, not-from}
 
 module _ (def : Bankdef) (at : Pos) (node : Node) where
+  abbrev moves : Doing → Moved
+  moves d =
+      byDoing d
+      (To at)
+      (movedBy at (node .number) (staysKnown (at .known) node) (node .index))
+      (alignedTo def at (node .number) (staysKnown (at .known) node) (node .index))
+      (To (record { position = node .number; known = resolved node }))
+      (Refused (Malformed (node .index)))
+
   -- A state beyond 2 that is read is refused.
   pub bad-state : badState node ≡ true → advancedOf def at node ≡ Refused (Malformed (node .index))
   unfolding advancedOf
@@ -26,46 +38,37 @@ module _ (def : Bankdef) (at : Pos) (node : Node) where
   unfolding advancedOf
   sound-state e = pick-false _ _ e
 
+  -- what a move is, by what the kind does
+  doing : {d : Doing} → d ≡ doesOf (node .kind) → movedOn def at node ≡ moves d
+  unfolding movedOn
+  doing e = ap moves (sym e)
+
   -- kinds 0 to 3
   pub early : node .kind < 4 → movedOn def at node ≡ To at
-  unfolding movedOn
   early h =
-      rw (
-        not-at (node .kind) 5 (omega arith),
-        lt-leb 4 (node .kind) h,
-        not-at (node .kind) 8 (omega arith),
-        not-at (node .kind) 9 (omega arith),
-        le-leb (node .kind) 10 (omega arith),
-      )
+      let k = node .kind in
+      elim (decLe k 0) [
+        | yes none ↦ doing (does-stay k (inl (omega arith)))
+        | no some ↦
+            elim (decLe k 1) [
+              | yes one ↦ doing (does-switch k (omega arith))
+              | no more ↦ doing (does-mark k (omega arith) (omega arith))
+            ]
+      ]
 
   -- kinds 4 to 7
   pub item : 4 ≤ node .kind → node .kind ≤ 7 → movedOn def at node ≡ movedBy at (node .number) (staysKnown (at .known) node) (node .index)
-  unfolding movedOn
-  item h k =
-      rw (le-leb 4 (node .kind) h, le-leb (node .kind) 7 k)
-      (chosen (eqb (node .kind) 5) at (node .number) (at .known) (at .known && resolved node) (node .index))
+  item h k = doing (does-add (node .kind) h k)
 
   pub aligning : node .kind ≡ 8 → movedOn def at node ≡ alignedTo def at (node .number) (staysKnown (at .known) node) (node .index)
-  unfolding movedOn
-  aligning e = rw e
+  aligning e = doing (does-align (node .kind) e)
 
   pub setting : node .kind ≡ 9 → movedOn def at node ≡ To (record { position = node .number; known = resolved node })
-  unfolding movedOn
-  setting e = rw e
+  setting e = doing (does-set (node .kind) e)
 
   pub asserting : node .kind ≡ 10 → movedOn def at node ≡ To at
-  unfolding movedOn
-  asserting e = rw e
+  asserting e = doing (does-stay (node .kind) (inr e))
 
   -- "Any other kind number is refused."
   pub other : 10 < node .kind → movedOn def at node ≡ Refused (Malformed (node .index))
-  unfolding movedOn
-  other h =
-      rw (
-        not-from (node .kind) 5 (omega arith),
-        le-leb 4 (node .kind) (omega arith),
-        lt-leb (node .kind) 7 (omega arith),
-        not-from (node .kind) 8 (omega arith),
-        not-from (node .kind) 9 (omega arith),
-        lt-leb (node .kind) 10 h,
-      )
+  other h = doing (does-nothing-known (node .kind) h)

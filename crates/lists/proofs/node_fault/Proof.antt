@@ -1,11 +1,10 @@
--- Each arm of the match by its law; the kinds that an arm has are what the tests before it have left.
-use Prim.Native.Nat.{_≤_}
-use mathlib.Core.Path.{_≡_}
+-- Each return by its law, from the tests before it.
+use mathlib.Core.Path.{_≡_, sym, _∙_}
 use mathlib.Core.Bool.{false}
-use mathlib.Core.Logic.{inl, inr, ⊎-elim}
-use native.Mathlib.Omega.{arith}
-use Rattle.lists.specs.Lists.{Lists, lists, isItem}
-use Rattle.lists.proofs.Faults.{from-four, items, stated-alone, no-fault, switch-fault, rows-fault, kind-fault}
+use borrow.Author.Tests.{leb-true, not-true, not-false}
+use Rattle.lists.specs.Kinds.{isUnknown}
+use Rattle.lists.specs.Lists.{Lists, lists}
+use Rattle.lists.proofs.Faults.{kind-fault, switch-fault, no-fault, rows-fault}
 use borrow.Author.Needs.{needs}
 use Rattle.lists.proofs.node_fault.Statement.{statement}
 use Rattle.lists.proofs.node_fault.Tie as tie
@@ -13,52 +12,57 @@ use Rattle.lists.proofs.node_fault.Tie as tie
 abbrev given : tie.Start → Lists
 given s = lists (s .args .kinds .now) (s .args .operands .now) (s .args .numbers .now) (s .args .states .now) (s .args .rows) (s .args .values .now)
 
--- where the arm of 3 and of 7 to 10 is reached
-stated : (c : tie.At-match-came) → (3 ≤ c .before .byte-at .result) × (c .before .byte-at .result ≤ 10) × (isItem (c .before .byte-at .result) ≡ false)
-stated c =
-    stated-alone (c .before .byte-at .result) (⊎-elim (λ w. inl (w .keys3)) (λ w. inr (w .1 .left, w .2 .taken)) (c .match .came))
+-- past the test of the kind
+abbrev entry : tie.After-byte-at → tie.Start
+entry b = b .before .before .before .before .before .before
 
-any-row-fault-requires : tie.Need-any-row-fault-requires
-any-row-fault-requires c κs =
-    let s = c .before .before .before .before .before .before .before .before in
-    let k = c .before .before .byte-at .ensures in
-    let low = from-four (c .before .before .byte-at .result) (c .before .match .rest .0 .0 .1) (c .before .match .rest .0 .1) (c .before .match .rest .1) in
-    (s .pre, (omega arith, rw k at (items _ low (c .if1 .taken))))
+known : (c : tie.Else1) → isUnknown (c .before .before .byte-at .result) ≡ false
+known c = sym (c .before .is-unknown .ensures) ∙ c .if1 .left
 
-any-row-fault-requires-2 : tie.Need-any-row-fault-requires-2
-any-row-fault-requires-2 c κs =
-    let k = c .before .byte-at .ensures in
-    (c .before .before .before .before .before .before .before .pre, (omega (arith, stated c .0), rw k at (stated c .2)))
+-- past that of a switch
+switchless : (c : tie.Else2) → c .before .before .before .byte-at .result ≡ 1 → ⊥
+switchless c = c .if2 .left
 
 returns : tie.Need-returns
-returns c = let s = c .before .before .before .before .before .before .before in
-    no-fault (s .args .banks) (given s) (s .args .i) (c .before .byte-at .ensures) (c .match .keys1)
+returns c =
+    let b = c .before .before in
+    let s = entry b in
+    kind-fault (s .args .banks) (given s) (s .args .i) (b .byte-at .ensures) (sym (c .before .is-unknown .ensures) ∙ c .if1 .taken)
 
 returns-2 : tie.Need-returns-2
-returns-2 c = let s = c .before .before .before .before .before .before .before .before .before in
-    switch-fault (s .args .banks) (given s) (s .args .i) (c .before .before .before .byte-at .ensures) (c .before .before .match .keys2)
-    (c .before .number-at .ensures) (c .wide .ensures)
+returns-2 c =
+    let t = c .before .before in
+    let b = t .before .before .before in
+    let s = entry b in
+    switch-fault (s .args .banks) (given s) (s .args .i) (b .byte-at .ensures) (known (t .before)) (t .if2 .taken) (c .before .number-at .ensures)
+    (c .wide .ensures)
 
 returns-3 : tie.Need-returns-3
 returns-3 c =
-    let s = c .before .before .before .before .before .before .before .before .before in
-    let low = from-four (c .before .before .before .byte-at .result) (c .before .before .match .rest .0 .0 .1)
-    (c .before .before .match .rest .0 .1) (c .before .before .match .rest .1) in
-    rows-fault (s .args .banks) (given s) (s .args .i) (c .before .before .before .byte-at .ensures) (omega arith) (omega arith) (c .any-row-fault .ensures)
+    let e = c .before .before in
+    let b = e .before .before .before in
+    let s = entry b in
+    no-fault (s .args .banks) (given s) (s .args .i) (b .byte-at .ensures) (known (e .before)) (switchless e)
+    (sym (c .before .reads-state .ensures) ∙ not-true _ (c .if3 .taken))
+
+any-row-fault-requires : tie.Need-any-row-fault-requires
+any-row-fault-requires c κs =
+    let r = c .before .before in
+    let b = r .before .before .before .before in
+    let k = b .byte-at .ensures in
+    let low = leb-true 3 (b .byte-at .result) (sym (r .reads-state .ensures) ∙ not-false _ (c .before .if3 .left)) in
+    (entry b .pre, (rw k at low, sym (rw k at (c .is-written .ensures))))
 
 returns-4 : tie.Need-returns-4
-returns-4 c = let s = c .before .before .before .before .before .before .before .before .before in
-    kind-fault (s .args .banks) (given s) (s .args .i) (c .before .before .before .byte-at .ensures) (c .if2 .left)
-
-returns-5 : tie.Need-returns-5
-returns-5 c =
-    let s = c .before .before .before .before .before .before .before .before in
-    rows-fault (s .args .banks) (given s) (s .args .i) (c .before .before .byte-at .ensures) (stated (c .before) .0) (stated (c .before) .1)
-    (c .any-row-fault2 .ensures)
+returns-4 c =
+    let e = c .before .before .before .before in
+    let b = e .before .before .before in
+    let s = entry b in
+    rows-fault (s .args .banks) (given s) (s .args .i) (b .byte-at .ensures) (known (e .before)) (switchless e) (c .any-row-fault .ensures)
 
 pub node-fault-spec : {M : Type 1} → statement M
 node-fault-spec =
     tie.close
     (tie.spec
-    (λ c κs. search needs) (λ c κs. search needs) (λ c κs. search needs) any-row-fault-requires any-row-fault-requires-2 returns returns-2 returns-3
-    returns-4 returns-5)
+    (λ c κs. search needs) (λ c κs. search needs) returns (λ c κs. search needs) (λ c κs. search needs) returns-2 (λ c κs. search needs) returns-3
+    (λ c κs. search needs) any-row-fault-requires returns-4)

@@ -9,7 +9,8 @@ use lib.Dec.{eqb, leb, ltb}
 use lib.ListN.{getD, length}
 use borrow.Author.Tests.{eqb-true, leb-true, ltb-true, eq-eqb, le-leb, lt-ltb}
 use Rattle.refusal.specs.Laws.Bools.{both, clash, or-left, or-right, or-told}
-use Rattle.lists.specs.Lists.{Lists, isItem, pastEnd, rowFault, headFault, anyRowFault, nodeFault}
+use Rattle.lists.specs.Kinds.{lastKind, isUnknown, isItem}
+use Rattle.lists.specs.Lists.{Lists, pastEnd, rowFault, headFault, anyRowFault, nodeFault}
 use Rattle.lists.specs.FaultExactly.{FaultAt, otherBank, otherKind, otherState, pastValues, shownIn}
 
 module _ (banks : ℕ) (l : Lists) (i : ℕ) where
@@ -33,11 +34,11 @@ module _ (banks : ℕ) (l : Lists) (i : ℕ) where
 
   head-told : headFault banks (shownIn l 0 i) ≡ true → FaultAt banks l i
   head-told e =
-      ⊎-elim (λ (f : ltb 10 (getD (l .kinds) i 0) ≡ true). otherKind (ltb-true 10 (getD (l .kinds) i 0) f))
+      ⊎-elim (λ (f : isUnknown (getD (l .kinds) i 0) ≡ true). otherKind (ltb-true lastKind (getD (l .kinds) i 0) f))
       (λ (f : (eqb (getD (l .kinds) i 0) 1 && leb banks (getD (l .operands) i 0)) ≡ true).
       let a = both (eqb (getD (l .kinds) i 0) 1) (leb banks (getD (l .operands) i 0)) f in
       otherBank (eqb-true (getD (l .kinds) i 0) 1 (a .0)) (leb-true banks (getD (l .operands) i 0) (a .1)))
-      (or-told (ltb 10 (getD (l .kinds) i 0)) (eqb (getD (l .kinds) i 0) 1 && leb banks (getD (l .operands) i 0)) e)
+      (or-told (isUnknown (getD (l .kinds) i 0)) (eqb (getD (l .kinds) i 0) 1 && leb banks (getD (l .operands) i 0)) e)
 
   row-told : (r : ℕ) → r < l .rows → rowFault (length (l .values)) (shownIn l r i) ≡ true → FaultAt banks l i
   row-told r h e =
@@ -55,10 +56,10 @@ module _ (banks : ℕ) (l : Lists) (i : ℕ) where
       (or-told (ltb 2 kind && ltb 2 (shownIn l r i .state)) (isItem kind && past) e)
 
   counts : FaultAt banks l i → nodeFault banks l i ≡ true
-  counts (otherKind h) = rw (lt-ltb 10 (getD (l .kinds) i 0) h)
+  counts (otherKind h) = rw (lt-ltb lastKind (getD (l .kinds) i 0) h)
   counts (otherBank e h) =
       or-left (headFault banks (shownIn l 0 i)) (anyRowFault l i (l .rows))
-      (or-right (ltb 10 (getD (l .kinds) i 0)) (eqb (getD (l .kinds) i 0) 1 && leb banks (getD (l .operands) i 0))
+      (or-right (isUnknown (getD (l .kinds) i 0)) (eqb (getD (l .kinds) i 0) 1 && leb banks (getD (l .operands) i 0))
       (rw (eq-eqb (getD (l .kinds) i 0) 1 e) (le-leb banks (getD (l .operands) i 0) h)))
   counts (otherState r h k s) =
       or-right (headFault banks (shownIn l 0 i)) (anyRowFault l i (l .rows))

@@ -5,9 +5,9 @@ use mathlib.Core.List.{List, [], _∷_}
 use mathlib.Core.Logic.{_⊎_, inl, inr, _↔_}
 use Prim.Native.Nat.{ℕ, _+_, _≤_, _<_}
 use native.Mathlib.Omega.{arith}
-use lib.Dec.{eqb}
-use borrow.Author.Tests.{eqb-true, eqb-false, eq-eqb, ne-eqb, leb-true, le-leb}
-use Rattle.refusal.specs.Laws.Bools.{either, unlike}
+use borrow.Author.Tests.{leb-true, le-leb}
+use Rattle.refusal.specs.Laws.Bools.{unlike}
+use Rattle.refusal.specs.Laws.Pick.{pick-true, pick-false}
 use Rattle.refusal.specs.Pick.{pick}
 use Rattle.refusal.specs.declared.Opt.{Opt}
 use Rattle.refusal.specs.declared.Opt.the-variants.{None, Some}
@@ -15,6 +15,8 @@ use Rattle.bankdef.specs.declared.Bankdef.{Bankdef}
 use Rattle.bankdef.specs.declared.Bankdefs.{Bankdefs}
 use Rattle.iter.specs.Address.{outAt}
 use Rattle.iter.specs.declared.Moved.the-variants.{To}
+use Rattle.lists.specs.Kinds.{sizeOf}
+use Rattle.lists.specs.Laws.Kinds.{adds-so, label-adds-none}
 use Rattle.lists.specs.declared.Node.{Node}
 use Rattle.iter.specs.declared.Pos.{Pos}
 use Rattle.overlap_checker.specs.Interval.{interval}
@@ -26,7 +28,6 @@ use Rattle.build_plan.specs.Theorems.Kinds.{offered-exactly}
 use Rattle.build_plan.specs.Placing.{isOffered, bitsAt, offerOf}
 use Rattle.resolver.specs.Layout.{Checked}
 use Rattle.resolver.specs.NodeOrder.{defAt}
-use Rattle.build_sights.specs.Spans.{sizeOf}
 use Rattle.build_sights.specs.Visits.{seenPos, positionOf, visitAt}
 use Rattle.build_sights.specs.declared.Visit.{Visit}
 use Rattle.says.specs.Build as says
@@ -112,25 +113,42 @@ module _ (g : Given) (tab : Bankdefs) (shown : Shown g tab) (c : Checked tab (li
 
   -- ---- 10 and 11
 
-  extent-is : Extent g r i (sizeOf (visited .node))
-  extent-is =
-      either (eqb (kind g i) 2) (λ t. rw t (says.label (eqb-true (kind g i) 2 t)))
-      (λ t. rw t (says.item (eqb-false (kind g i) 2 t) (number-is g tab r i h)))
+  -- a label has no size, an item or a reserve its number
+  no-size : kind g i ≡ 2 → sizeOf (visited .node) ≡ 0
+  no-size k = pick-false (visited .node .number) 0 (label-adds-none (kind g i) k)
 
-  extent-one : {e : ℕ} → Extent g r i e → e ≡ sizeOf (visited .node)
-  extent-one (says.label k) = rw (eq-eqb (kind g i) 2 k)
-  extent-one (says.item k n) = rw (ne-eqb (kind g i) 2 k) (number-one g n (number-is g tab r i h))
+  own-size : (4 ≤ kind g i) × (kind g i ≤ 7) → sizeOf (visited .node) ≡ visited .node .number
+  own-size k = pick-true (visited .node .number) 0 (adds-so (kind g i) (k .0) (k .1))
+
+  extent-is : (kind g i ≡ 2) ⊎ ((4 ≤ kind g i) × (kind g i ≤ 7)) → Extent g r i (sizeOf (visited .node))
+  extent-is (inl k) = subst (Extent g r i) (sym (no-size k)) (says.label k)
+  extent-is (inr k) = subst (Extent g r i) (sym (own-size k)) (says.item (λ e. omega (arith, k .0)) (number-is g tab r i h))
+
+  extent-one : {e : ℕ} → (kind g i ≡ 2) ⊎ ((4 ≤ kind g i) × (kind g i ≤ 7)) → Extent g r i e → e ≡ sizeOf (visited .node)
+  extent-one p (says.label k) = sym (no-size k)
+  extent-one (inl k) (says.item m n) = absurd (m k)
+  extent-one (inr k) (says.item m n) = number-one g n (number-is g tab r i h) ∙ sym (own-size k)
 
   pub ten-exactly : at-node.Ten visited (positionOf visited) ↔ Ten g r i
   ten-exactly = (
     λ t. (
       (h, t .placed),
-      (visited .bank, positionOf visited, now .known, sizeOf (visited .node), t .size, sees-visited, extent-is, tells .sized (t .size) (t .sized), t .past),
+      (
+        visited .bank,
+        positionOf visited,
+        now .known,
+        sizeOf (visited .node),
+        t .size,
+        sees-visited,
+        extent-is (t .placed),
+        tells .sized (t .size) (t .sized),
+        t .past,
+      ),
     ),
     λ t.
         let x = t .1 in
         let same = sees-one g (x .5) sees-visited in
-        let size = extent-one (x .6) in
+        let size = extent-one (t .0 .1) (x .6) in
         record {
           placed = t .0 .1;
           size = x .4;

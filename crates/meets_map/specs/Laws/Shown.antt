@@ -12,9 +12,9 @@ use Rattle.refusal.specs.Laws.Bools.{either, both, clash}
 use Rattle.bitvec.specs.Lists.{listOf}
 use Rattle.bitvec.specs.Laws.Lists.{length-listOf}
 use Rattle.iter.specs.declared.Lost.{Lost}
+use Rattle.lists.specs.Kinds.{sizeOf}
 use Rattle.lists.specs.Theorems.Sound.{accepted-lists}
 use Rattle.resolver.specs.Layout.{Checked}
-use Rattle.resolver.specs.Padding.{sizeBy}
 use Rattle.output.specs.Output.{Input, passesOf}
 use Rattle.build_sights.specs.Visits.{seenPos}
 use Rattle.build_map.specs.Map as map
@@ -88,7 +88,7 @@ module _ (g : Given) (typed : Typed g) (old : Lent) (r : DkMap) (new : Lent) (to
       before : Goes g (table g) is ck rowNow i
       before j l = goes j (omega arith)
 
-      bits-are : Bits g rowNow i (sizeBy (nodeNo g (table g) rowNow i))
+      bits-are : Bits g rowNow i (sizeOf (nodeNo g (table g) rowNow i))
       bits-are =
           either (leb 4 (kind g i) && leb (kind g i) 7)
           (λ t.
@@ -138,8 +138,8 @@ module _ (g : Given) (typed : Typed g) (old : Lent) (r : DkMap) (new : Lent) (to
     abbrev outputOf : ℕ → ℕ
     outputOf = outputShown (walked g (table g)) (rowNo g (table g) rowNow)
 
-    abbrev sizeOf : ℕ → ℕ
-    sizeOf = sizeShown (walked g (table g)) (rowNo g (table g) rowNow)
+    abbrev bitsOf : ℕ → ℕ
+    bitsOf = sizeShown (walked g (table g)) (rowNo g (table g) rowNow)
 
     banks-are : new .banks ≡ with-old (old .banks) bankOf
     banks-are = ap (λ (l : map.Lent). l .banks) left-is
@@ -150,7 +150,7 @@ module _ (g : Given) (typed : Typed g) (old : Lent) (r : DkMap) (new : Lent) (to
     outputs-are : new .outputs ≡ with-old (old .outputs) outputOf
     outputs-are = ap (λ (l : map.Lent). l .outputs) left-is
 
-    sizes-are : new .sizes ≡ with-old (old .sizes) sizeOf
+    sizes-are : new .sizes ≡ with-old (old .sizes) bitsOf
     sizes-are = ap (λ (l : map.Lent). l .sizes) left-is
 
     same-entry : (i : ℕ) {a p o s a′ p′ o′ s′ : ℕ} → a ≡ a′ → p ≡ p′ → o ≡ o′ → s ≡ s′ → Entry g rowNow i a p o s → Entry g rowNow i a′ p′ o′ s′
@@ -163,16 +163,16 @@ module _ (g : Given) (typed : Typed g) (old : Lent) (r : DkMap) (new : Lent) (to
             long-list (new .banks) (old .banks) bankOf banks-are (places .banks),
             long-list (new .positions) (old .positions) positionOf positions-are (places .positions),
             long-list (new .outputs) (old .outputs) outputOf outputs-are (places .outputs),
-            long-list (new .sizes) (old .sizes) sizeOf sizes-are (places .sizes),
+            long-list (new .sizes) (old .sizes) bitsOf sizes-are (places .sizes),
           );
           shown = λ i h.
               same-entry i (at-list (new .banks) (old .banks) bankOf banks-are i h) (at-list (new .positions) (old .positions) positionOf positions-are i h)
-              (at-list (new .outputs) (old .outputs) outputOf outputs-are i h) (at-list (new .sizes) (old .sizes) sizeOf sizes-are i h) (entry-meets i h);
+              (at-list (new .outputs) (old .outputs) outputOf outputs-are i h) (at-list (new .sizes) (old .sizes) bitsOf sizes-are i h) (entry-meets i h);
           rest = λ i h. (
             past-list (new .banks) (old .banks) bankOf banks-are i h,
             past-list (new .positions) (old .positions) positionOf positions-are i h,
             past-list (new .outputs) (old .outputs) outputOf outputs-are i h,
-            past-list (new .sizes) (old .sizes) sizeOf sizes-are i h,
+            past-list (new .sizes) (old .sizes) bitsOf sizes-are i h,
           );
         }
 

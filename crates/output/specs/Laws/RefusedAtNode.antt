@@ -23,6 +23,7 @@ use Rattle.refusal.specs.declared.Opt.the-variants.{None, Some}
 use Rattle.iter.specs.Address.{outAt}
 use Rattle.iter.specs.declared.Pos.{Pos}
 use Rattle.iter.specs.declared.Moved.{Moved}
+use Rattle.lists.specs.Kinds.{sizeOf}
 use Rattle.lists.specs.Lists.{firstOf}
 use Rattle.overlap_checker.specs.declared.Entry.{Entry}
 use Rattle.overlap_checker.specs.State.{State, emptyState, answer}
@@ -32,7 +33,7 @@ use Rattle.build_sights.specs.declared.Visit.{Visit}
 use Rattle.output.specs.declared.Build.the-variants.{Refused}
 use Rattle.build_sights.specs.Laws.VisitLaws.{visits-next, visits-split}
 use Rattle.build_sights.specs.Items.{isWritten, itemsOf, lengthOf}
-use Rattle.build_sights.specs.Spans.{sizeOf, spansOf}
+use Rattle.build_sights.specs.Spans.{spansOf}
 use Rattle.build_plan.specs.Placing.{isPlaced, closesDefault, usesDefault, endsPast, lacksOutput, offerOf}
 use Rattle.build_plan.specs.Placing.{answered, placing}
 use Rattle.build_plan.specs.Placing.{verdictSeen, Placed, holds, stops, placedIf, placedNext, placedFrom, placedAll}

@@ -6,7 +6,7 @@ use mathlib.Core.List.{List·Memᴰ·eq-of-singleton}
 use mathlib.Core.Logic.{_⊎_, ⊎-elim}
 use Prim.Native.Nat.{ℕ, zero, suc, _+_, _<_}
 use native.Mathlib.Omega.{arith}
-use borrow.Author.Tests.{ne-eqb}
+use borrow.Author.Tests.{eqb-true}
 use lib.Dec.{eqb}
 use lib.ListN.{length, getD, length-append}
 use Rattle.refusal.specs.Laws.Bools.{or-told}
@@ -16,6 +16,8 @@ use Rattle.refusal.specs.declared.Offset.{Offset}
 use Rattle.refusal.specs.declared.Offset.the-variants.{None as Nowhere, At as Out}
 use Rattle.iter.specs.Address.{unitsFrom, addressOf}
 use Rattle.iter.specs.Distance.{tellable}
+use Rattle.lists.specs.Kinds.{sizeOf}
+use Rattle.lists.specs.Laws.Kinds.{written-adds, label-adds-none}
 use Rattle.lists.specs.declared.Node.{Node}
 use Rattle.bankdef.specs.declared.Bankdef.{Bankdef}
 use Rattle.overlap_checker.specs.declared.Entry.{Entry}
@@ -28,8 +30,7 @@ use Rattle.build_sights.specs.declared.Visit.{Visit}
 use Rattle.build_sights.specs.Visits.{visitsTo}
 use Rattle.build_sights.specs.Laws.VisitLaws.{visits-split, each-append, each-next}
 use Rattle.build_sights.specs.Items.{isWritten}
-use Rattle.build_plan.specs.Theorems.Kinds.{written-exactly}
-use Rattle.build_sights.specs.Spans.{Span, isSpan, sizeOf, addressTold, spanAt, spanOf, spansOf, over, words, sizes}
+use Rattle.build_sights.specs.Spans.{Span, isSpan, addressTold, spanAt, spanOf, spansOf, over, words, sizes}
 use Rattle.build_plan.specs.Placing.{isOffered, bitsAt, offerOf}
 use Rattle.build_plan.specs.Laws.PlacingLaws.{picked-some}
 use Rattle.build_plan.specs.PlacingLaws.{OfferedBit}
@@ -105,16 +106,15 @@ span-offered bit v x m i =
     let (s, here) = picked-some (isSpan (v .node)) (spanAt v ∷ []) m in
     let own : InPlaced bit (v .out) (sizeOf (v .node)) = subst (λ (y : Span). InShown bit y) (List·Memᴰ·eq-of-singleton here) i in
     ⊎-elim
-    (λ (label : eqb (v .node .kind) 2 ≡ true). absurd (empty-none bit (v .out) (sizeOf (v .node)) (pick-true 0 (v .node .number) label) own))
+    (λ (label : eqb (v .node .kind) 2 ≡ true).
+    let none = label-adds-none (v .node .kind) (eqb-true (v .node .kind) 2 label) in
+    absurd (empty-none bit (v .out) (sizeOf (v .node)) (pick-false (v .node .number) 0 none) own))
     (λ (w : isWritten (v .node) ≡ true).
     let whole : InPlaced bit (v .out) (v .node .number) =
-    subst (λ (k : ℕ). InPlaced bit (v .out) k) (pick-false 0 (v .node .number) (not-label (v .node) w)) own in
+    subst (λ (k : ℕ). InPlaced bit (v .out) k) (pick-true (v .node .number) 0 (written-adds (v .node .kind) w)) own in
     let (e, me, c) = placed-bits bit (v .out) (v .node) whole in
     (e, offers-written v w me, c))
     (label-or-written (v .node) s)
-  where
-    not-label : (n : Node) → isWritten n ≡ true → eqb (n .kind) 2 ≡ false
-    not-label n w = ne-eqb (n .kind) 2 (λ k. let h = written-exactly n .0 w in omega (arith, h .0))
 
 -- spans as they are lent, in words
 word-back : (bit : ℕ) (o : Offset) (size : ℕ) → InPlaced bit (offsetOf (wordOf o)) size → InPlaced bit o size

@@ -16,6 +16,7 @@ use Rattle.refusal.specs.declared.Place.{Place}
 use Rattle.refusal.specs.declared.Place.the-variants.{One, Two}
 use Rattle.refusal.specs.declared.Verdict.{Verdict}
 use Rattle.refusal.specs.declared.Verdict.the-variants.{Accepted, Refused as TurnedAway}
+use Rattle.lists.specs.Kinds.{sizeOf}
 use Rattle.overlap_checker.specs.declared.Entry.{Entry}
 use Rattle.overlap_checker.specs.Interval.{interval, StrictlyInside}
 use Rattle.overlap_checker.specs.State.{State, emptyState, answer}
@@ -30,7 +31,6 @@ use Rattle.build_sights.specs.declared.Visit.{Visit}
 use Rattle.build_sights.specs.Visits.{positionOf}
 use Rattle.build_sights.specs.Items.{isWritten}
 use Rattle.build_plan.specs.Theorems.Kinds.{written-exactly, offered-exactly, placed-exactly}
-use Rattle.build_sights.specs.Spans.{sizeOf}
 use Rattle.build_plan.specs.Placing.{isPlaced, isOffered, usesDefault, endsPast, lacksOutput, offerOf}
 use Rattle.build_plan.specs.Placing.{answered}
 use Rattle.build_plan.specs.Laws.PlacingLaws.{picked-some, offer-is, placed-accepts}

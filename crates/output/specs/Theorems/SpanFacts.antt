@@ -3,13 +3,17 @@ use mathlib.Core.Path.{_≡_, sym, ap, _∙_}
 use mathlib.Core.Bool.{true}
 use mathlib.Core.List.{List, map}
 use Prim.Native.Nat.{ℕ, _<_}
-use borrow.Author.Tests.{eq-eqb, ne-eqb}
+use borrow.Author.Tests.{ne-eqb}
+use lib.Dec.{eqb}
 use lib.IntN.{ℤ, pos}
 use lib.ListN.{length, getD, take, drop, length-map}
 use lib.Seq.{take-at, drop-at}
+use Rattle.refusal.specs.Laws.Bools.{or-else}
 use Rattle.refusal.specs.Laws.Pick.{pick-true, pick-false}
 use Rattle.iter.specs.Address.{unitsFrom, outputPosition}
 use Rattle.iter.specs.Distance.{tellable}
+use Rattle.lists.specs.Kinds.{isItem, sizeOf}
+use Rattle.lists.specs.Laws.Kinds.{written-adds, label-adds-none}
 use Rattle.blocks.specs.Offsets.{wordOf}
 use Rattle.blocks.specs.Spans.{spansOf as spansLent}
 use Rattle.blocks.specs.Spans as blocks-spans
@@ -19,7 +23,7 @@ use Rattle.blocks.specs.Laws.Row.{InARow}
 use Rattle.blocks.specs.Theorems.Row.{blocks-in-a-row}
 use Rattle.blocks.specs.Walk.{blocksOf}
 use Rattle.build_sights.specs.Visits.{positionOf}
-use Rattle.build_sights.specs.Spans.{Span, isSpan, sizeOf, spanAt, spanOf, over, addresses, words, sizes}
+use Rattle.build_sights.specs.Spans.{Span, isSpan, spanAt, spanOf, over, addresses, words, sizes}
 use Rattle.build_plan.specs.Laws.PlacingLaws.{holds-apart, apart-one, each-apart}
 use Rattle.output.specs.Output.{Lent}
 use Rattle.output.specs.Calls.{Accepted, nodesIn, visitIn, visitsIn, spansIn, closedIn}
@@ -65,11 +69,14 @@ module _ (b : Accepted) where
 
     -- "labels (size 0)", and a written item's number
     pub span-size-label : visitIn (b .call) n .node .kind ≡ 2 → getD (b .call .new .sizes) (spansAmong (b .call) n) 0 ≡ 0
-    span-size-label e = span-size ∙ pick-true 0 (visitIn (b .call) n .node .number) (eq-eqb (visitIn (b .call) n .node .kind) 2 e)
+    span-size-label e = span-size ∙ pick-false (visitIn (b .call) n .node .number) 0 (label-adds-none (visitIn (b .call) n .node .kind) e)
 
     pub span-size-item : (visitIn (b .call) n .node .kind ≡ 2 → ⊥)
         → getD (b .call .new .sizes) (spansAmong (b .call) n) 0 ≡ visitIn (b .call) n .node .number
-    span-size-item e = span-size ∙ pick-false 0 (visitIn (b .call) n .node .number) (ne-eqb (visitIn (b .call) n .node .kind) 2 e)
+    span-size-item e =
+        let k = visitIn (b .call) n .node .kind in
+        let w : isItem k ≡ true = or-else (eqb k 2) (isItem k) (ne-eqb k 2 e) s in
+        span-size ∙ pick-true (visitIn (b .call) n .node .number) 0 (written-adds k w)
 
   -- "lent spans .. keep their old contents past what was written"
   long-as : {A : Type 0} (f : Span → A) → length (map f (spansIn (b .call))) ≡ b .spans

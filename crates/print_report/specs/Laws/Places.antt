@@ -23,6 +23,7 @@ use Rattle.bankdef.specs.Theorems.Refused.{decided}
 use Rattle.bankdef.specs.declared.Bankdefs.{Bankdefs}
 use Rattle.iter.specs.declared.Moved.{Moved}
 use Rattle.iter.specs.declared.Moved.the-variants.{To, Refused as Stopped}
+use Rattle.lists.specs.Kinds.{sizeOf}
 use Rattle.lists.specs.declared.Node.{Node}
 use Rattle.iter.specs.declared.Pos.{Pos}
 use Rattle.resolver.specs.Laws.Ends.{Ending, early, last, ends}
@@ -59,7 +60,6 @@ use Rattle.build_plan.specs.Placing.{isPlaced, isOffered, bitsAt, usesDefault, 
 use Rattle.build_plan.specs.Placing.{verdictSeen, verdictOn, offerOf}
 use Rattle.build_plan.specs.Placing.{Placed, holds, stops, placedIf, placedNext, placedFrom, placedAll}
 use Rattle.build_plan.specs.Laws.PlacingLaws.{placed-last}
-use Rattle.build_sights.specs.Spans.{sizeOf}
 use Rattle.build_sights.specs.Visits.{visitAt, visitsTo}
 use Rattle.output.specs.declared.Build.{Build}
 use Rattle.output.specs.declared.Build.the-variants.{Done, Refused as Unbuilt}

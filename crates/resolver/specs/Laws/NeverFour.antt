@@ -28,6 +28,7 @@ use Rattle.iter.specs.declared.Distance.{Distance}
 use Rattle.iter.specs.declared.Distance.the-variants.{Refused as NoDistance}
 use Rattle.iter.specs.declared.Moved.{Moved}
 use Rattle.iter.specs.declared.Moved.the-variants.{To, Refused as Stopped}
+use Rattle.lists.specs.Kinds.{lastKind}
 use Rattle.lists.specs.declared.Node.{Node}
 use Rattle.iter.specs.declared.Pos.{Pos}
 use Rattle.iter.specs.declared.Skipped.{Skipped}
@@ -56,7 +57,7 @@ module _ (def : Bankdef) (tells : tellable def ≡ true) where
     sight-not (told.aligned s a f (told.by d g (told.past l))) e = omega arith
     sight-not (told.aligned s a f (told.untold why g)) e = distance-not (at .position) a (n .index) why g e
 
-    advance-not : n .kind ≤ 10 → SoundState n → {t : Told Pos} → Advances def at n t → toldNumber t ≡ 4 → ⊥
+    advance-not : n .kind ≤ lastKind → SoundState n → {t : Told Pos} → Advances def at n t → toldNumber t ≡ 4 → ⊥
     advance-not k s (told.unknown h) e = omega arith
     advance-not k s (told.badly h g) e = let l = s h in omega arith
     advance-not k s (told.stays s′ h) e = omega arith
@@ -67,7 +68,7 @@ module _ (def : Bankdef) (tells : tellable def ≡ true) where
     advance-not k s (told.aligns s′ h known keeps (told.untold why f)) e = distance-not (at .position) (n .number) (n .index) why f e
     advance-not k s (told.sets s′ h known sets) e = omega arith
 
-  module _ (walk : Walk) (n : Node) (k : n .kind ≤ 10) (s : SoundState n) (t : malformed (bankAfter (walk .bank) n) n ≡ false) where
+  module _ (walk : Walk) (n : Node) (k : n .kind ≤ lastKind) (s : SoundState n) (t : malformed (bankAfter (walk .bank) n) n ≡ false) where
     at-four : {m : Moved} {w why : Refusal} → m ≡ Stopped w → Stopped w ≡ Stopped why → numberOf why ≡ 4 → toldNumber (toldMoved m) ≡ 4
     at-four e f n = let same = stopped-number f in rw e (same ∙ n)
       where

@@ -40,6 +40,7 @@ use Rattle.iter.specs.declared.Distance.{Distance}
 use Rattle.iter.specs.declared.Distance.the-variants.{Skips, Refused as NoDistance}
 use Rattle.iter.specs.declared.Lost.{Lost}
 use Rattle.iter.specs.declared.Moved.the-variants.{To, Refused as Stopped}
+use Rattle.lists.specs.Kinds.{sizeOf}
 use Rattle.lists.specs.declared.Node.{Node}
 use Rattle.iter.specs.declared.Pos.{Pos}
 use Rattle.iter.specs.declared.Skipped.{Skipped}
@@ -49,7 +50,7 @@ use Rattle.resolver.specs.Laws.Least.{or-past}
 use Rattle.lists.specs.Lists.{Row}
 use Rattle.resolver.specs.NodeOrder.{defAt, seenAt}
 use Rattle.resolver.specs.Once.{Program, node}
-use Rattle.resolver.specs.Padding.{distanceIn, labelLoses, lostBy, sightLoses, sizeBy, standsAt, sumIn, paddingTo}
+use Rattle.resolver.specs.Padding.{distanceIn, labelLoses, lostBy, sightLoses, standsAt, sumIn, paddingTo}
 
 -- what a node loses, in bits or in whole units
 abbrev pub partBy : Part → Bankdef → ℕ → Node → ℕ
@@ -66,7 +67,7 @@ module _ (p : Program) (row : Row) where
   padding-part the-units bank n = refl
 
   abbrev pub sizeAt : ℕ → ℕ
-  sizeAt i = sizeBy (node p row i)
+  sizeAt i = sizeOf (node p row i)
 
   -- the bits of a bank's items and reserves
   abbrev pub sizesTo : ℕ → ℕ → ℕ
@@ -171,9 +172,9 @@ module _ (def : Bankdef) (at : Pos) (n : Node) (s : Pos) where
   pub record Made (q : Pos) : Type 0 where
     pub lost : stepSkips def at s n .bits ≡ lostBy def (at .position) n
     pub within : lostBy def (at .position) n ≤ maxPosition
-    pub ends : (n .kind ≡ 9 → ⊥) → q .position ≡ at .position + sizeBy n + lostBy def (at .position) n
+    pub ends : (n .kind ≡ 9 → ⊥) → q .position ≡ at .position + sizeOf n + lostBy def (at .position) n
 
-  no-size : (n .kind < 4) ⊎ (7 < n .kind) → sizeBy n ≡ 0
+  no-size : (n .kind < 4) ⊎ (7 < n .kind) → sizeOf n ≡ 0
   no-size (inl h) = rw (lt-leb 4 (n .kind) h)
   no-size (inr h) = rw (lt-leb (n .kind) 7 h, le-leb 4 (n .kind) (omega arith))
 
@@ -218,7 +219,7 @@ module _ (def : Bankdef) (at : Pos) (n : Node) (s : Pos) where
   plus-none l e z f = omega arith
 
   ends-by : (q : Pos) → (n .kind ≡ 8 → ⊥) → (n .kind ≡ 9 → ⊥) → advancedOf def s n ≡ To q → Sight (seenSkips def at n) (sightLoses def (at .position) n)
-      → q .position ≡ at .position + sizeBy n + sightLoses def (at .position) n
+      → q .position ≡ at .position + sizeOf n + sightLoses def (at .position) n
   ends-by q eight nine a x =
       let moves = advance-moves def s n q a in
       let ten = known-kind q a in
@@ -226,8 +227,8 @@ module _ (def : Bankdef) (at : Pos) (n : Node) (s : Pos) where
       (λ (h : 3 < n .kind).
       ⊎-elim
       (λ (g : n .kind ≤ 7).
-      let size : sizeBy n ≡ n .number = rw (le-leb 4 (n .kind) h, le-leb (n .kind) 7 g) in
-      plus-size (sizeBy n) (sightLoses def (at .position) n) (moves .adds-number h g ∙ ap (λ (z : ℕ). s .position + z) (sym size)) (x .sum))
+      let size : sizeOf n ≡ n .number = rw (le-leb 4 (n .kind) h, le-leb (n .kind) 7 g) in
+      plus-size (sizeOf n) (sightLoses def (at .position) n) (moves .adds-number h g ∙ ap (λ (z : ℕ). s .position + z) (sym size)) (x .sum))
       (λ (g : 7 < n .kind). plus-none (sightLoses def (at .position) n) (moves .stays-there (inr (omega arith))) (no-size (inr g)) (x .sum))
       (or-past (n .kind) 7))
       (or-past (n .kind) 3)
@@ -301,15 +302,15 @@ module _ (def : Bankdef) (walk : Walk) (n : Node) (now : Pos) (seen : stepOf def
       seen
 
   pub step-moves : length (walk .at) ≡ maxBanks → (j : ℕ) → (bank ≡ j → n .kind ≡ 9 → ⊥)
-      → getD (stepOf def walk n .walk .at) j origin .position ≡ getD (walk .at) j origin .position + pick (eqb bank j) (sizeBy n + lostBy def position n) 0
+      → getD (stepOf def walk n .walk .at) j origin .position ≡ getD (walk .at) j origin .position + pick (eqb bank j) (sizeOf n + lostBy def position n) 0
   step-moves sixteen j nine =
       step-cases def walk n
       (λ (x : Stepped). x .seen ≡ To now
-      → getD (x .walk .at) j origin .position ≡ getD (walk .at) j origin .position + pick (eqb bank j) (sizeBy n + lostBy def position n) 0)
+      → getD (x .walk .at) j origin .position ≡ getD (walk .at) j origin .position + pick (eqb bank j) (sizeOf n + lostBy def position n) 0)
       (λ why e. absurd (never-to e))
       (λ s q e a f.
-      set-adds (λ (x : Pos). x .position) origin (walk .at) bank j (sizeBy n + lostBy def position n) q (let h = inside in omega arith)
-      (λ same. made def (standing walk n) n s q e a .ends (nine same) ∙ plus-assoc position (sizeBy n) (lostBy def position n)))
+      set-adds (λ (x : Pos). x .position) origin (walk .at) bank j (sizeOf n + lostBy def position n) q (let h = inside in omega arith)
+      (λ same. made def (standing walk n) n s q e a .ends (nine same) ∙ plus-assoc position (sizeOf n) (lostBy def position n)))
       seen
     where
       plus-assoc : (x y z : ℕ) → x + y + z ≡ x + (y + z)

@@ -14,12 +14,14 @@ use Rattle.refusal.specs.declared.Opt.{Opt}
 use Rattle.refusal.specs.declared.Opt.the-variants.{None, Some}
 use Rattle.bankdef.specs.declared.Bankdef.{Bankdef}
 use Rattle.iter.specs.Distance.{tellable, addressInBits, distanceTo, skipsOf, distanceOf}
-use Rattle.iter.specs.Step.{origin, movedBy, movedByDistance, alignedTo, outermostSymbol, labelAligned, seenOf, movedOn, advancedOf}
+use Rattle.iter.specs.Step.{origin, movedBy, movedByDistance, alignedTo, outermostSymbol, labelAligned, seenOf, badState, movedOn, advancedOf}
 use Rattle.iter.specs.Step.{stepSkips, steppedTo, steppedFrom, stepOf}
 use Rattle.iter.specs.declared.Distance.{Distance}
 use Rattle.iter.specs.declared.Distance.the-variants.{Skips, Refused as NoDistance}
 use Rattle.iter.specs.declared.Moved.{Moved}
 use Rattle.iter.specs.declared.Moved.the-variants.{To, Refused as Stopped}
+use Rattle.lists.specs.Kinds.{doesOf}
+use Rattle.lists.specs.Laws.Kinds.{in-each}
 use Rattle.lists.specs.declared.Node.{Node}
 use Rattle.iter.specs.declared.Pos.{Pos}
 use Rattle.iter.specs.declared.Skipped.{Skipped}
@@ -102,7 +104,11 @@ module _ (def : Bankdef) (node : Node) where
 
   advanced-ok : (at : Pos) → MoveOk (node .index) (advancedOf def at node)
   unfolding advancedOf movedOn
-  advanced-ok at = search (choice-move, sum-ok, aligned-ok, to-ok, malformed-ok) depth 9
+  advanced-ok at =
+      let i = node .index in
+      choice-move i (badState node) (Stopped (Malformed i)) (movedOn def at node) (malformed-ok i)
+      (in-each (MoveOk i) (doesOf (node .kind)) (to-ok i at) (sum-ok i at (node .number) _) (aligned-ok i def at (node .number) _) (to-ok i _)
+      (malformed-ok i))
 
   after-ok : (walk : Walk) (bank : ℕ) (p : Pos) (s : Skipped) (m : Moved) → MoveOk (node .index) m → MoveOk (node .index) (steppedTo walk bank p s m .seen)
   after-ok walk bank p s (To q) h = to-ok (node .index) p

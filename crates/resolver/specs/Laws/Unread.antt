@@ -15,13 +15,14 @@ use Rattle.bankdef.specs.Check.{checkOf}
 use Rattle.bankdef.specs.declared.Bankdefs.{Bankdefs}
 use Rattle.iter.specs.declared.Moved.{Moved}
 use Rattle.iter.specs.declared.Moved.the-variants.{To, Refused as Stopped}
+use Rattle.lists.specs.Kinds.{isItem, ReadsNumber, lastKind, isUnknown}
 use Rattle.lists.specs.declared.Node.{Node}
 use Rattle.iter.specs.declared.Stepped.{Stepped}
 use Rattle.iter.specs.declared.Walk.{Walk}
 use Rattle.resolver.specs.Theorems.FirstRow.{state-of-its-row, number-of-its-row, declared-number-of-first-row}
 use Rattle.resolver.specs.Layout.{unless, layoutOf}
 use Rattle.resolver.specs.Laws.Least.{or-past}
-use Rattle.lists.specs.Lists.{Lists, lists, rowAt, isItem, pastEnd, rowFault, headFault, anyRowFault, nodeFault, nodesTo, listsOf}
+use Rattle.lists.specs.Lists.{Lists, lists, rowAt, pastEnd, rowFault, headFault, anyRowFault, nodeFault, nodesTo, listsOf}
 use Rattle.resolver.specs.Once.{Going, on, off, node, bankOf, stepAt, walkTo, labelState, stateOf, met, meets, passTo, closed}
 use Rattle.resolver.specs.Passes.{program, passAt, settledBy, resolutionOf}
 use Rattle.lists.specs.Theorems.Sound.{accepted-node, accepted-lists}
@@ -38,9 +39,9 @@ pub record Agree (kinds : List ℕ) (rows : ℕ) (operands numbers states values
   pub state-count : length states ≡ length states′
   pub value-count : length values ≡ length values′
   pub operand : (i : ℕ) → i < length kinds → 1 ≤ getD kinds i 0 → getD kinds i 0 ≤ 6 → getD operands i 0 ≡ getD operands′ i 0
-  pub number : (r i : ℕ) → r < rows → i < length kinds → 4 ≤ getD kinds i 0 → getD kinds i 0 ≤ 9 → (getD kinds i 0 ≡ 5 → r ≡ 0) →
+  pub number : (r i : ℕ) → r < rows → i < length kinds → ReadsNumber (getD kinds i 0) → (getD kinds i 0 ≡ 5 → r ≡ 0) →
       getD numbers (r * length kinds + i) 0 ≡ getD numbers′ (r * length kinds + i) 0
-  pub state : (r i : ℕ) → r < rows → i < length kinds → 3 ≤ getD kinds i 0 → getD kinds i 0 ≤ 10 →
+  pub state : (r i : ℕ) → r < rows → i < length kinds → 3 ≤ getD kinds i 0 → getD kinds i 0 ≤ lastKind →
       getD states (r * length kinds + i) 0 ≡ getD states′ (r * length kinds + i) 0
 
 module _ (banks : Bankdefs) (kinds : List ℕ) (rows : ℕ) (operands numbers states values operands′ numbers′ states′ values′ : List ℕ)
@@ -57,23 +58,23 @@ module _ (banks : Bankdefs) (kinds : List ℕ) (rows : ℕ) (operands numbers st
   abbrev nodeTwo : ℕ → ℕ → Node
   nodeTwo r i = node (program banks two) (rowAt two r) i
 
-  number-read : (r i : ℕ) → r < rows → i < length kinds → 4 ≤ getD kinds i 0 → getD kinds i 0 ≤ 9 → nodeOne r i .number ≡ nodeTwo r i .number
-  number-read r i h g low high =
+  number-read : (r i : ℕ) → r < rows → i < length kinds → ReadsNumber (getD kinds i 0) → nodeOne r i .number ≡ nodeTwo r i .number
+  number-read r i h g reads =
       either (eqb (getD kinds i 0) 5)
       (λ e.
       let k = eqb-true (getD kinds i 0) 5 e in
       let z : 0 * length kinds + i ≡ i = omega arith in
       declared-number-of-first-row banks one r i g k
-      ∙ ((rw z at (agree .number 0 i (omega arith) g low high (λ q. refl))) ∙ sym (declared-number-of-first-row banks two r i g k)))
+      ∙ ((rw z at (agree .number 0 i (omega arith) g reads (λ q. refl))) ∙ sym (declared-number-of-first-row banks two r i g k)))
       (λ e.
       let k = eqb-false (getD kinds i 0) 5 e in
-      number-of-its-row banks one r i g k ∙ (agree .number r i h g low high (λ q. absurd (k q)) ∙ sym (number-of-its-row banks two r i g k)))
+      number-of-its-row banks one r i g k ∙ (agree .number r i h g reads (λ q. absurd (k q)) ∙ sym (number-of-its-row banks two r i g k)))
 
-  state-read : (r i : ℕ) → r < rows → i < length kinds → 3 ≤ getD kinds i 0 → getD kinds i 0 ≤ 10 → nodeOne r i .state ≡ nodeTwo r i .state
+  state-read : (r i : ℕ) → r < rows → i < length kinds → 3 ≤ getD kinds i 0 → getD kinds i 0 ≤ lastKind → nodeOne r i .state ≡ nodeTwo r i .state
   state-read r i h g low high =
       state-of-its-row banks one r i g ∙ (agree .state r i h g low high ∙ sym (state-of-its-row banks two r i g))
 
-  same-node : (r i : ℕ) → r < rows → i < length kinds → getD kinds i 0 ≤ 10 → SameRead (nodeOne r i) (nodeTwo r i)
+  same-node : (r i : ℕ) → r < rows → i < length kinds → getD kinds i 0 ≤ lastKind → SameRead (nodeOne r i) (nodeTwo r i)
   same-node r i h g high =
       record {
         index = refl;
@@ -91,7 +92,8 @@ module _ (banks : Bankdefs) (kinds : List ℕ) (rows : ℕ) (operands numbers st
       (λ e. let k = eqb-true (getD kinds i 0) 1 e in rw (agree .operand i g (omega arith) (omega arith)))
       (λ e. rw e)
 
-  row-same : (r i : ℕ) → r < rows → i < length kinds → getD kinds i 0 ≤ 10 → rowFault (length values) (nodeOne r i) ≡ rowFault (length values′) (nodeTwo r i)
+  row-same : (r i : ℕ) → r < rows → i < length kinds → getD kinds i 0 ≤ lastKind
+      → rowFault (length values) (nodeOne r i) ≡ rowFault (length values′) (nodeTwo r i)
   row-same r i h g high = either-same state-fault item-fault
     where
       either-same : {a b c d : Bool} → a ≡ c → b ≡ d → (a || b) ≡ (c || d)
@@ -111,20 +113,20 @@ module _ (banks : Bankdefs) (kinds : List ℕ) (rows : ℕ) (operands numbers st
           either (leb (getD kinds i 0) 6)
           (λ f.
           let up = leb-true (getD kinds i 0) 6 f in
-          rw (agree .value-count, number-read r i h g low (omega arith), agree .operand i g (omega arith) up))
+          rw (agree .value-count, number-read r i h g (low, omega arith), agree .operand i g (omega arith) up))
           (λ f. rw (e, f)))
           (λ e. rw e)
 
-  rows-same : (r i : ℕ) → r ≤ rows → i < length kinds → getD kinds i 0 ≤ 10 → anyRowFault one i r ≡ anyRowFault two i r
+  rows-same : (r i : ℕ) → r ≤ rows → i < length kinds → getD kinds i 0 ≤ lastKind → anyRowFault one i r ≡ anyRowFault two i r
   unfolding anyRowFault
   rows-same zero i h g high = refl
   rows-same (suc r) i h g high = rw (rows-same r i (omega arith) g high, row-same r i h g high)
 
   fault-same : (i : ℕ) → i < length kinds → nodeFault (banks .len) one i ≡ nodeFault (banks .len) two i
   fault-same i g =
-      ⊎-elim (λ (high : getD kinds i 0 ≤ 10). rw (switch-same i g, rows-same rows i (omega arith) g high))
-      (λ (past : 10 < getD kinds i 0). rw (lt-ltb 10 (getD kinds i 0) past))
-      (or-past (getD kinds i 0) 10)
+      ⊎-elim (λ (high : getD kinds i 0 ≤ lastKind). rw (switch-same i g, rows-same rows i (omega arith) g high))
+      (λ (past : lastKind < getD kinds i 0). rw (lt-ltb lastKind (getD kinds i 0) past))
+      (or-past (getD kinds i 0) lastKind)
 
   nodes-same : (n : ℕ) → n ≤ length kinds → nodesTo (banks .len) one n ≡ nodesTo (banks .len) two n
   unfolding nodesTo
@@ -141,13 +143,13 @@ module _ (banks : Bankdefs) (kinds : List ℕ) (rows : ℕ) (operands numbers st
     some-row : 1 ≤ rows
     some-row = accepted-lists (banks .len) one fill sound .rows .some
 
-    known-kind : (i : ℕ) → i < length kinds → getD kinds i 0 ≤ 10
+    known-kind : (i : ℕ) → i < length kinds → getD kinds i 0 ≤ lastKind
     known-kind i g =
         let s = accepted-lists (banks .len) one fill sound in
         let e = accepted-node (banks .len) one (length kinds) (s .nodes) i g in
         let a = neither (headFault (banks .len) (nodeOne 0 i)) (anyRowFault one i rows) e in
-        let b = neither (ltb 10 (getD kinds i 0)) (eqb (getD kinds i 0) 1 && leb (banks .len) (getD operands i 0)) (a .0) in
-        ltb-false 10 (getD kinds i 0) (b .0)
+        let b = neither (isUnknown (getD kinds i 0)) (eqb (getD kinds i 0) 1 && leb (banks .len) (getD operands i 0)) (a .0) in
+        ltb-false lastKind (getD kinds i 0) (b .0)
 
     step-at-same : (r : ℕ) → r < rows → (walk : Walk) (i : ℕ) → i < length kinds
         → stepAt (program banks one) (rowAt one r) walk i ≡ stepAt (program banks two) (rowAt two r) walk i

@@ -13,6 +13,7 @@ use Rattle.bankdef.specs.declared.Bankdefs.{Bankdefs}
 use Rattle.iter.specs.Step.{bankAfter}
 use Rattle.iter.specs.declared.Moved.the-variants.{Refused as Stopped}
 use Rattle.resolver.specs.Layout.{Checked}
+use Rattle.lists.specs.Kinds.{lastKind, isUnknown}
 use Rattle.lists.specs.Lists.{Lists, nodeOf, headFault, anyRowFault}
 use Rattle.resolver.specs.NodeOrder.{seenAt, defAt, GoesPast}
 use Rattle.resolver.specs.Once.{walkTo}
@@ -24,13 +25,13 @@ use Rattle.lists.specs.Theorems.Sound.{accepted-node, accepted-lists}
 use Rattle.resolver.specs.Laws.NeverFour.{listed-tells, step-not-four}
 
 module _ (banks : Bankdefs) (l : Lists) {fill : ℕ} (c : Checked banks l fill) where
-  pub listed-kind : (i : ℕ) → i < length (l .kinds) → getD (l .kinds) i 0 ≤ 10
+  pub listed-kind : (i : ℕ) → i < length (l .kinds) → getD (l .kinds) i 0 ≤ lastKind
   listed-kind i h =
       let s = accepted-lists (banks .len) l fill (c .lists) in
       let e = accepted-node (banks .len) l (length (l .kinds)) (s .nodes) i h in
       let a = neither (headFault (banks .len) (nodeOf (l .kinds) (l .operands) (l .numbers) (l .states) 0 i)) (anyRowFault l i (l .rows)) e in
-      let b = neither (ltb 10 (getD (l .kinds) i 0)) (eqb (getD (l .kinds) i 0) 1 && leb (banks .len) (getD (l .operands) i 0)) (a .0) in
-      ltb-false 10 (getD (l .kinds) i 0) (b .0)
+      let b = neither (isUnknown (getD (l .kinds) i 0)) (eqb (getD (l .kinds) i 0) 1 && leb (banks .len) (getD (l .operands) i 0)) (a .0) in
+      ltb-false lastKind (getD (l .kinds) i 0) (b .0)
 
   -- No node of a pass is refused 4.
   pub never-four : banks .len ≤ length (banks .defs) → (n i : ℕ) (isLast : Bool) → i < length (l .kinds)

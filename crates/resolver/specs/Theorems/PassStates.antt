@@ -12,8 +12,9 @@ use Rattle.refusal.specs.Laws.Bools.{neither}
 use Rattle.bankdef.specs.declared.Bankdefs.{Bankdefs}
 use Rattle.iter.specs.declared.Moved.{Moved}
 use Rattle.iter.specs.declared.Moved.the-variants.{To, Refused as Stopped}
+use Rattle.lists.specs.Kinds.{isItem}
 use Rattle.lists.specs.declared.Node.{Node}
-use Rattle.lists.specs.Lists.{Lists, isItem, pastEnd, rowFault, listsOf}
+use Rattle.lists.specs.Lists.{Lists, pastEnd, rowFault, listsOf}
 use Rattle.resolver.specs.Once.{labelState, passTo}
 use Rattle.resolver.specs.Passes.{program, rowOfPass, passAt}
 use Rattle.lists.specs.Theorems.Sound.{accepted-row, accepted-lists}

@@ -15,6 +15,7 @@ use Rattle.bankdef.specs.declared.Bankdefs.{Bankdefs}
 use Rattle.iter.specs.Laws.Advance.{outside}
 use Rattle.iter.specs.Step.{badState, bankAfter, malformed}
 use Rattle.iter.specs.declared.Moved.the-variants.{Refused as Stopped}
+use Rattle.lists.specs.Kinds.{isUnknown}
 use Rattle.lists.specs.declared.Node.{Node}
 use Rattle.resolver.specs.Theorems.LabelStates.{switchedTo, bank-by-switches}
 use Rattle.resolver.specs.Layout.{Checked}
@@ -37,7 +38,7 @@ module _ (banks : Bankdefs) (l : Lists) {fill : ℕ} (c : Checked banks l fill) 
       let s = accepted-lists (banks .len) l fill (c .lists) in
       let e = accepted-node (banks .len) l (length (l .kinds)) (s .nodes) i h in
       let a = neither (headFault (banks .len) (nodeOf (l .kinds) (l .operands) (l .numbers) (l .states) 0 i)) (anyRowFault l i (l .rows)) e in
-      let b = neither (ltb 10 (getD (l .kinds) i 0)) (eqb (getD (l .kinds) i 0) 1 && leb (banks .len) (getD (l .operands) i 0)) (a .0) in
+      let b = neither (isUnknown (getD (l .kinds) i 0)) (eqb (getD (l .kinds) i 0) 1 && leb (banks .len) (getD (l .operands) i 0)) (a .0) in
       let d : true && leb (banks .len) (getD (l .operands) i 0) ≡ false = rw (eq-eqb (getD (l .kinds) i 0) 1 k) at (b .1) in
       leb-false (banks .len) (getD (l .operands) i 0) d
 

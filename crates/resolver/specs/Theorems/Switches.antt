@@ -14,6 +14,7 @@ use Rattle.bankdef.specs.Check.{checkOf}
 use Rattle.bankdef.specs.Theorems.Refused.{accepted}
 use Rattle.bankdef.specs.declared.Bankdefs.{Bankdefs}
 use Rattle.resolver.specs.Laws.Least.{or-past}
+use Rattle.lists.specs.Kinds.{isUnknown}
 use Rattle.lists.specs.Lists.{Lists, nodeOf, headFault, anyRowFault, listsOf}
 use Rattle.lists.specs.Theorems.Sound.{accepted-node, accepted-lists}
 use Rattle.resolver.specs.Switches.{Switches}
@@ -25,7 +26,7 @@ module _ (banks : Bankdefs) (l : Lists) (fill : ℕ) where
       let n = nodeOf (l .kinds) (l .operands) (l .numbers) (l .states) 0 i in
       let none = accepted-node (banks .len) l (length (l .kinds)) (accepted-lists (banks .len) l fill e .nodes) i h in
       let head = neither (headFault (banks .len) n) (anyRowFault l i (l .rows)) none .0 in
-      let named = neither (ltb 10 (n .kind)) (eqb (n .kind) 1 && leb (banks .len) (n .operand)) head .1 in
+      let named = neither (isUnknown (n .kind)) (eqb (n .kind) 1 && leb (banks .len) (n .operand)) head .1 in
       let past : leb (banks .len) (n .operand) ≡ false = rw (eq-eqb (getD (l .kinds) i 0) 1 k) at named in
       leb-false (banks .len) (n .operand) past
 

@@ -50,7 +50,7 @@ module _ (n m : Node) (same : SameRead n m) where
 
   moved-read : (def : Bankdef) (at : Pos) → 4 ≤ m .kind → m .kind ≤ 9 → movedOn def at n ≡ movedOn def at m
   unfolding movedOn
-  moved-read def at low high = rw (same .kind, same .index, same .number low high, same .state (omega arith))
+  moved-read def at low high = rw (same .kind, same .index, same .number (low, high), same .state (omega arith))
 
   moved-same : (def : Bankdef) (at : Pos) → movedOn def at n ≡ movedOn def at m
   moved-same def at =
@@ -79,7 +79,7 @@ module _ (n m : Node) (same : SameRead n m) where
   advance-skips-same def at =
       rw (advanced-same def at, same .kind, same .index)
       (either (eqb (m .kind) 8)
-      (λ e. let k = eqb-true (m .kind) 8 e in rw (e, same .number (omega arith) (omega arith)))
+      (λ e. let k = eqb-true (m .kind) 8 e in rw (e, same .number (omega arith, omega arith)))
       (λ e. rw e))
 
   skips-same : (def : Bankdef) (at p : Pos) → stepSkips def at p n ≡ stepSkips def at p m

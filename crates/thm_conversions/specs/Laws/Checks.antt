@@ -18,8 +18,9 @@ use Rattle.bankdef.specs.Check.{checkBanks, firstPair}
 use Rattle.bankdef.specs.Numbers.{startSound, isZero, fillBit, bankFault, zeroFault}
 use Rattle.bankdef.specs.Search.{firstWhere}
 use Rattle.bankdef.specs.declared.Bankdef.{Bankdef}
+use Rattle.lists.specs.Kinds.{isItem}
 use Rattle.lists.specs.declared.Node.{Node}
-use Rattle.lists.specs.Lists.{Lists, Row, nodeAt, nodeOf, rowAt, rowFault, headFault, isItem, anyRowFault, nodeFault, firstOf, nodesTo}
+use Rattle.lists.specs.Lists.{Lists, Row, nodeAt, nodeOf, rowAt, rowFault, headFault, anyRowFault, nodeFault, firstOf, nodesTo}
 use Rattle.lists.specs.Lists.{nodeCountSound, rowCountSound, knownFill, listsOf}
 use Rattle.thm_conversions.specs.Widened.{bare, turned, shifted, misplaced, withSwitch}
 use Rattle.thm_conversions.specs.Steps.{up}

@@ -14,12 +14,15 @@ use Rattle.refusal.specs.declared.Opt.the-variants.{None, Some}
 use Rattle.refusal.specs.declared.Refusal.the-variants.{Malformed}
 use Rattle.bankdef.specs.declared.Bankdef.{Bankdef}
 use Rattle.iter.specs.Distance.{tellable, addressInBits, distanceTo, distanceOf, noSkip}
-use Rattle.iter.specs.Step.{origin, noLost, movedBy, alignedTo, outermostSymbol, labelAligned, labelSkips, seenOf, badState, resolved, movedOn, advancedOf}
+use Rattle.iter.specs.Step.{origin, noLost, movedBy, alignedTo, outermostSymbol, labelAligned, labelSkips, seenOf, badState, movedOn, advancedOf}
 use Rattle.iter.specs.Step.{skipsBy, whenMade, seenSkips, advanceSkips, lostAfter, bankAfter, stopped, steppedTo, stepSkips, steppedFrom, stepOf}
 use Rattle.iter.specs.declared.Lost.{Lost}
 use Rattle.iter.specs.declared.Moved.{Moved}
 use Rattle.iter.specs.declared.Moved.the-variants.{To, Refused as Stopped}
 use Rattle.lists.specs.declared.Node.{Node}
+use Rattle.lists.specs.declared.kinds.Doing.{Doing}
+use Rattle.lists.specs.declared.kinds.Doing.the-variants.{Stays, Switches, Symbol, Adds, Aligns, Sets, Unknown}
+use Rattle.lists.specs.Kinds.{doesOf, byDoing}
 use Rattle.iter.specs.declared.Pos.{Pos}
 use Rattle.iter.specs.declared.Skipped.{Skipped}
 use Rattle.iter.specs.declared.Stepped.{Stepped}
@@ -54,6 +57,16 @@ record Shift (x u : Moved) : Type 0 where
 pick-shifts : (t : Bool) {x y u v : Moved} → Shift x u → Shift y v → Shift (pick t x y) (pick t u v)
 pick-shifts true e f = e
 pick-shifts false e f = f
+
+doing-shifts : (d : Doing) {a b c s u a′ b′ c′ s′ u′ : Moved} → Shift a a′ → Shift b b′ → Shift c c′ → Shift s s′ → Shift u u′
+    → Shift (byDoing d a b c s u) (byDoing d a′ b′ c′ s′ u′)
+doing-shifts Stays a b c s u = a
+doing-shifts Switches a b c s u = a
+doing-shifts Symbol a b c s u = a
+doing-shifts Adds a b c s u = b
+doing-shifts Aligns a b c s u = c
+doing-shifts Sets a b c s u = s
+doing-shifts Unknown a b c s u = u
 
 moved-shifts : (at : Pos) (bits : ℕ) (known : Bool) (i : ℕ) → Shift (movedBy at bits known i) (movedBy at bits known (suc i))
 moved-shifts at bits known i = pick-shifts (leb (at .position + bits) maxPosition) (record { is = refl }) (record { is = refl })
@@ -93,11 +106,8 @@ module _ (n : Node) where
   on-shifts : (def : Bankdef) (at : Pos) → Shift (movedOn def at n) (movedOn def at (up n))
   unfolding movedOn
   on-shifts def at =
-      pick-shifts (eqb (n .kind) 5) (moved-shifts at (n .number) (at .known) (n .index))
-      (pick-shifts (leb 4 (n .kind) && leb (n .kind) 7) (moved-shifts at (n .number) (at .known && resolved n) (n .index))
-      (pick-shifts (eqb (n .kind) 8) (aligned-shifts def at (n .number) (at .known && resolved n) (n .index))
-      (pick-shifts (eqb (n .kind) 9) (record { is = refl })
-      (pick-shifts (leb (n .kind) 10) (record { is = refl }) (record { is = refl })))))
+      doing-shifts (doesOf (n .kind)) (record { is = refl }) (moved-shifts at (n .number) _ (n .index)) (aligned-shifts def at (n .number) _ (n .index))
+      (record { is = refl }) (record { is = refl })
 
   pub advanced-shifts : (def : Bankdef) (at : Pos) → advancedOf def at (up n) ≡ shiftedMoved (advancedOf def at n)
   unfolding advancedOf

@@ -22,6 +22,7 @@ use Rattle.iter.specs.Distance.{tellable}
 use Rattle.iter.specs.Step.{startOf, seenOf, movedOn, advancedOf, seenSkips, advanceSkips, bankAfter, stepOf}
 use Rattle.iter.specs.declared.Moved.{Moved}
 use Rattle.iter.specs.declared.Moved.the-variants.{To, Refused as Stopped}
+use Rattle.lists.specs.Kinds.{sizeOf}
 use Rattle.lists.specs.declared.Node.{Node}
 use Rattle.iter.specs.declared.Pos.{Pos}
 use Rattle.iter.specs.declared.Walk.{Walk}
@@ -36,7 +37,7 @@ use Rattle.build_plan.specs.Placing.{endsPast, lacksOutput, isPlaced, isOffered
 use Rattle.build_plan.specs.Placing.{offerOf, checked, answered, tried, placing, verdictSeen, verdictOn}
 use Rattle.build_plan.specs.Placing.{Placed, holds, stops, placedIf, placedNext, placedFrom, placedAll}
 use Rattle.build_plan.specs.Laws.PlacingLaws.{placed-last}
-use Rattle.build_sights.specs.Spans.{Span, isSpan, sizeOf, addressTold, spanOf, spansOf}
+use Rattle.build_sights.specs.Spans.{Span, isSpan, addressTold, spanOf, spansOf}
 use Rattle.build_sights.specs.Laws.VisitLaws.{visits-none, visits-next, each-next}
 use Rattle.build_sights.specs.Visits.{seenPos, positionOf, visitAt, visitsTo, visits, each}
 use Rattle.build_sights.specs.declared.Visit.{Visit}

@@ -7,7 +7,7 @@ use Rattle.build_plan.proofs.checks.check_place.Tie as tie
 use Rattle.build_plan.proofs.checks.check_place.Reads as reads
 use Rattle.build_plan.proofs.checks.check_place.Lts as lts
 use Rattle.build_plan.proofs.checks.ends_past.Reads as ends-past-reads
-use Rattle.build_sights.proofs.size_of.Reads as size-of-reads
+use Rattle.lists.proofs.size_of.Reads as size-of-reads
 use Rattle.build_plan.proofs.checks.check_bank_usage.Reads as uses-default-reads
 use Rattle.build_plan.proofs.checks.written_nowhere.Reads as written-nowhere-reads
 
@@ -20,7 +20,7 @@ unfolding checked
 returns-2 c =
     rw (
       sym (c .before .before .before .check-bank-usage .ensures) ∙ c .before .before .if1 .left,
-      ← (c .before .before .before .before .size-of .ensures .0),
+      ← (c .before .before .before .before .size-of .ensures),
       sym (c .before .ends-past .ensures) ∙ c .if2 .taken,
     )
 
@@ -29,7 +29,7 @@ unfolding checked
 returns-3 c =
     rw (
       sym (c .before .before .before .before .before .check-bank-usage .ensures) ∙ c .before .before .before .before .if1 .left,
-      ← (c .before .before .before .before .before .before .size-of .ensures .0),
+      ← (c .before .before .before .before .before .before .size-of .ensures),
       sym (c .before .before .before .ends-past .ensures) ∙ c .before .before .if2 .left,
       sym (c .before .written-nowhere .ensures) ∙ c .if3 .taken,
     )
@@ -39,7 +39,7 @@ unfolding checked
 returns-4 c =
     rw (
       sym (c .before .before .before .before .before .check-bank-usage .ensures) ∙ c .before .before .before .before .if1 .left,
-      ← (c .before .before .before .before .before .before .size-of .ensures .0),
+      ← (c .before .before .before .before .before .before .size-of .ensures),
       sym (c .before .before .before .ends-past .ensures) ∙ c .before .before .if2 .left,
       sym (c .before .written-nowhere .ensures) ∙ c .if3 .left,
     )
@@ -48,5 +48,5 @@ pub check-place-spec : {M : Type 1} → statement M
 check-place-spec =
     tie.close
     (tie.spec
-    (λ c. search needs) (λ c κs. search needs) (λ c. search needs) (λ c κs. search needs) returns (λ c κs. search needs) returns-2
+    (λ c. search needs) (λ c κs. search needs) (λ c. search needs) (λ c. search needs) (λ c κs. search needs) returns (λ c κs. search needs) returns-2
     (λ c κs. search needs) returns-3 returns-4)

@@ -7,16 +7,16 @@ use native.Mathlib.Omega.{arith}
 use borrow.Author.Tests.{not-true, not-false}
 use Rattle.iter.specs.Distance.{tellable}
 use Rattle.iter.specs.Step.{outermostSymbol}
-use Rattle.iter.proofs.PaceLaws.{paces-plain, paces-unaligned, paces-symbol, paces-symbol-untold}
+use Rattle.iter.proofs.PaceLaws.{outermost, deeper, paces-plain, paces-unaligned, paces-symbol, paces-symbol-untold}
 use Rattle.iter.proofs.paces.pace_symbol.Statement.{statement}
 use Rattle.iter.proofs.paces.pace_symbol.Tie as tie
 
 few : (c : tie.Start) → c .args .node .kind < 4
-few c = omega (arith, c .pre .1)
+few c = omega (arith, c .pre .1 .1)
 
 -- past the first test, and past the second
 symbol : (c : tie.Else1) → outermostSymbol (c .before .before .args .node) ≡ true
-symbol c = sym (c .before .is-outermost-symbol .ensures) ∙ not-false _ (c .if1 .left)
+symbol c = outermost (c .before .before .args .node) (c .before .before .pre .1) (c .if1 .left)
 
 tells : (c : tie.Else2) → tellable (c .before .before .before .before .before .before .before .args .def) ≡ true
 tells c = sym (c .before .is-tellable .ensures) ∙ not-false _ (c .if2 .left)
@@ -25,7 +25,7 @@ returns : tie.Need-returns
 returns c =
     let t = c .before in
     let s = t .before .before in
-    paces-plain _ _ _ (s .pre .0) (sym (t .before .is-outermost-symbol .ensures) ∙ not-true _ (t .if1 .taken)) (few s) (c .stood .ensures)
+    paces-plain _ _ _ (s .pre .0) (deeper (s .args .node) (t .if1 .taken)) (few s) (c .stood .ensures)
 
 returns-2 : tie.Need-returns-2
 returns-2 c =
@@ -63,5 +63,5 @@ pub pace-symbol-spec : {M : Type 1} → statement M
 pace-symbol-spec =
     tie.close
     (tie.spec
-    (λ c κs. search needs) (λ c κs. search needs) returns (λ c. search needs) (λ c κs. search needs) (λ c. search needs) (λ c κs. search needs)
+    (λ c κs. search needs) returns (λ c. search needs) (λ c κs. search needs) (λ c. search needs) (λ c κs. search needs)
     (λ c κs. search needs) returns-2 distance-in-bits-requires in-units-requires (λ c κs. search needs) returns-3 returns-4)

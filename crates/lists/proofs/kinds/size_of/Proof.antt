@@ -1,7 +1,7 @@
 -- `size_of` meets its contract.
 use borrow.Author.Tests.{le-leb, lt-leb}
-use Rattle.build_map.proofs.entries.size_of.Statement.{statement}
-use Rattle.build_map.proofs.entries.size_of.Tie as tie
+use Rattle.lists.proofs.kinds.size_of.Statement.{statement}
+use Rattle.lists.proofs.kinds.size_of.Tie as tie
 
 returns : tie.Need-returns
 returns c = rw (lt-leb 4 (c .before .args .node .kind) (c .if1 .taken))
