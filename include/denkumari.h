@@ -35,7 +35,7 @@ extern "C" {
 #endif
 
 /* The version of this interface. */
-#define DENKUMARI_VERSION "0.7.0"
+#define DENKUMARI_VERSION "0.7.1"
 
 /* Limits: what is beyond one of them is refused. */
 #define DK_MAX_BANKS 16
