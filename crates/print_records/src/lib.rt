@@ -19,6 +19,9 @@ ghost use Rattle.prog_args.specs.Text.{Stands};
 ghost use Rattle.print_records.specs.Text.{refusedText, recordsOf, wholeBlocks, doneText, recordsText};
 ghost use Rattle.print_records.specs.Steps.{textRoom, answered};
 
+// Room for the image as records, a short one in each block.
+const TEXT: usize = 131_072;
+
 // What is asked for: the format, 0 for Intel HEX and 2 or 4 for S-records of that address width; the address of the image's first byte; the whole image with
 // its fill, or the blocks.
 pub struct Wanted {
@@ -206,7 +209,7 @@ fn put_build(
 }
 
 // Puts the text of a file. Lends room for the image and the spans.
-pub fn put_file(wanted: Wanted, file: &[u8], fill: u8, page: Opt, out: &mut [u8]) -> usize
+fn put_text(wanted: Wanted, file: &[u8], fill: u8, page: Opt, out: &mut [u8]) -> usize
     requires { ⌜ textRoom ≤ length (now out) ⌝ }
     ensures { λ r. ⌜ Stands (recordsText wanted (now (file .entry)) fill page) (now (out .entry)) r (now (out .exit)) ⌝ }
 {
@@ -225,4 +228,16 @@ pub fn put_file(wanted: Wanted, file: &[u8], fill: u8, page: Opt, out: &mut [u8]
         &mut sizes,
         out,
     )
+}
+
+// Puts the text of a file into room for every text, 131,072 bytes; nothing into less.
+pub fn put_file(wanted: Wanted, file: &[u8], fill: u8, page: Opt, out: &mut [u8]) -> usize
+    ensures { λ r. ⌜
+        (textRoom ≤ length (now (out .entry)) → Stands (recordsText wanted (now (file .entry)) fill page) (now (out .entry)) r (now (out .exit)))
+        ⌝ }
+{
+    if out.len() < TEXT {
+        return 0;
+    }
+    put_text(wanted, file, fill, page, out)
 }

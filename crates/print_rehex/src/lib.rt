@@ -21,6 +21,13 @@ const SOURCE: usize = 3_276_801;
 // A mark for each byte that a file may give, by which a file in any order is read quickly.
 const SCRATCH: usize = 131_072;
 
+// The rooms that every text fits into: for the bytes from the load address on, for the blocks, and for the records.
+const BYTES: usize = 1_048_576;
+
+const BLOCKS: usize = 4_096;
+
+const TEXT: usize = 3_145_728;
+
 // What a file of a kind gives, as records. There is room for every file, so that 14 is not given.
 fn turn(
     kind: u8,
@@ -78,7 +85,7 @@ fn put_fault(why: Refusal, kind: u8, load: u32, source: &[u8], out: &mut [u8]) -
 }
 
 // The text of a file: its records, or why not.
-pub fn put_file(
+fn put_text(
     kind: u8,
     format: u8,
     load: u32,
@@ -102,4 +109,36 @@ pub fn put_file(
         Written::Refused(why) => put_fault(why, kind, load, source, out),
         Written::Length(length) => length as usize,
     }
+}
+
+// The same, in rooms that every text fits into; nothing in other ones.
+pub fn put_file(
+    kind: u8,
+    format: u8,
+    load: u32,
+    source: &[u8],
+    bytes: &mut [u8],
+    offsets: &mut [u64],
+    sizes: &mut [u64],
+    out: &mut [u8],
+) -> usize
+    ensures { λ r. ⌜
+        (length (now (bytes .entry)) ≡ bytesRoom → length (now (offsets .entry)) ≡ blocksRoom → length (now (sizes .entry)) ≡ blocksRoom
+        → textRoom ≤ length (now (out .entry))
+        → Stands (turnedText kind format load (now (bytes .entry)) (now (source .entry))) (now (out .entry)) r (now (out .exit)))
+        ⌝ }
+{
+    if bytes.len() != BYTES {
+        return 0;
+    }
+    if offsets.len() != BLOCKS {
+        return 0;
+    }
+    if sizes.len() != BLOCKS {
+        return 0;
+    }
+    if out.len() < TEXT {
+        return 0;
+    }
+    put_text(kind, format, load, source, bytes, offsets, sizes, out)
 }

@@ -1,50 +1,27 @@
--- `put_file` meets its contract: a file that is too long is refused at once, and every other one is read and written.
+-- `put_file` meets its contract: the rooms are those that every text fits into, or nothing is told of it.
 use native.Mathlib.Omega.{arith}
-use Rattle.print_rehex.specs.Laws.Turned.{too-long, not-long}
 use borrow.Author.Needs.{needs}
 use Rattle.print_rehex.proofs.put_file.Statement.{statement}
 use Rattle.print_rehex.proofs.put_file.Tie as tie
 
 returns : tie.Need-returns
-returns c =
-    let a = c .before .before .before .before .before .before .before .before .before .before .args in
-    rw (too-long (a .kind) (a .format) (a .load) (a .bytes .now) (a .source .now) (omega (arith, c .before .before .before .before .if1 .taken)))
-    (c .before .before .put-refusal .ensures .0)
+returns c bytes offsets sizes room = absurd (c .if1 .taken bytes)
 
 returns-2 : tie.Need-returns-2
-returns-2 c =
-    let a = c .before .before .before .before .before .before .before .before .before .before .before .before .before .before .before .before
-    .before .before .before .before .before .before .before .before .before .before .args in
-    let told = rw (c .before .before .before .before .before .written .given .1) at
-    (c .before .before .before .before .before .before .before .before .before .before .before .before .before .before .before .turn .ensures) in
-    rw (
-      not-long (a .kind) (a .format) (a .load) (a .bytes .now) (a .source .now)
-          (omega (
-            arith,
-            c .before .before .before .before .before .before .before .before .before .before .before .before .before .before .before .before
-                .before .before .before .before .if1 .left,
-          )),
-      told .0,
-      ← told .1,
-    )
-    (c .before .before .put-fault .ensures)
+returns-2 c bytes offsets sizes room = absurd (c .if2 .taken offsets)
 
 returns-3 : tie.Need-returns-3
-returns-3 c =
-    let a = c .before .before .before .before .before .before .before .before .before .before .before .before .before .before .before .before
-    .before .before .before .before .before .before .args in
-    rw (not-long (a .kind) (a .format) (a .load) (a .bytes .now) (a .source .now)
-    (omega (
-      arith,
-      c .before .before .before .before .before .before .before .before .before .before .before .before .before .before .before .before
-          .if1 .left,
-    )))
-    (rw (c .before .written2 .given .1) at (c .before .before .before .before .before .before .before .before .before .before .before .turn .ensures))
+returns-3 c bytes offsets sizes room = absurd (c .if3 .taken sizes)
+
+returns-4 : tie.Need-returns-4
+returns-4 c bytes offsets sizes room = absurd (omega (arith, room, c .if4 .taken))
+
+returns-5 : tie.Need-returns-5
+returns-5 c bytes offsets sizes room = c .before .before .before .before .before .before .before .before .put-text .ensures
 
 pub put-file-spec : {M : Type 1} → statement M
 put-file-spec =
     tie.close
     (tie.spec
-    (λ c κs. search needs) (λ c. search needs) returns (λ c κs. search needs) (λ c. search needs) (λ c κs. search needs) (λ c. search needs)
-    (λ c. search needs) (λ c. search needs) (λ c. search needs) (λ c. search needs) returns-2 (λ c. search needs) (λ c. search needs)
-    (λ c. search needs) (λ c. search needs) returns-3)
+    returns returns-2 returns-3 returns-4 (λ c κs. search needs) (λ c. search needs) (λ c. search needs) (λ c. search needs) (λ c. search needs)
+    returns-5)

@@ -19,7 +19,7 @@ returns c =
     let d = c .before .before in
     let a = begin d .args in
     let w = a .wanted in
-    stands-shows (RecordsSay (w .format) (w .load) (w .whole) (a .file .now) (a .fill) (a .page)) (d .put-file .ensures)
+    stands-shows (RecordsSay (w .format) (w .load) (w .whole) (a .file .now) (a .fill) (a .page)) (d .put-file .ensures (begin d .pre))
     (records-meet w (a .file .now) (bytes d) (a .fill) (a .page))
 
 pub put-file-spec : {M : Type 1} → statement M

@@ -14,7 +14,7 @@ returns c =
     let a = s .args in
     shows-says (RehexText (a .kind) (a .format) (a .load) (a .source .now))
     (rehex-text-meets (a .kind) (a .format) (a .load) (a .source .now) (a .bytes .now) (s .pre .0))
-    (shown-whole (p .put-file .ensures) (c .print .result) (c .print .ensures))
+    (shown-whole (p .put-file .ensures (s .pre .0) (s .pre .1 .0) (s .pre .1 .1 .0) (s .pre .1 .1 .1)) (c .print .result) (c .print .ensures))
 
 pub write-spec : {M : Type 1} → statement M
 write-spec =
