@@ -23,6 +23,7 @@ use Rattle.iter.specs.WithinLimit.{Small, AllSmall}
 use Rattle.iter.specs.Laws.WithinLimit.{Within, seen-within}
 use Rattle.iter.specs.Theorems.WithinLimit.{step-within, never-past}
 use Rattle.iter.specs.declared.Stepped.{Stepped}
+use Rattle.lists.specs.Kinds.{addsNumber}
 use Rattle.lists.specs.Lists.{Row, rowAt}
 use Rattle.resolver.specs.Theorems.Listed.{either-record}
 use Rattle.resolver.specs.Passes.{program, rowOfPass}
@@ -100,7 +101,7 @@ module _ (p : Program) (row : Row) (banks : OffsetsFit (p .banks)) (first : (i :
       let bank = bankAfter (walkTo p row i .bank) (node p row i) in (
         out-fits (bankRecord (p .banks) bank .offset) (positionOf (visitAt p row i))
             (either-record (p .banks) bank (λ (b : Bankdef). OffsetFits (b .offset)) tt (banks bank)) (seen-small i),
-        either (eqb (node p row i .kind) 2) 0 (node p row i .number) zero-le (small i),
+        either (addsNumber (node p row i .kind)) (node p row i .number) 0 (small i) zero-le,
       )
 
   none-fit : AllFit (spansIn (visitsTo p row 0))
