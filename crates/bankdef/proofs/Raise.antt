@@ -6,8 +6,8 @@ use Prim.Native.Nat.{ℕ, _+_, _-_, max}
 use native.Mathlib.Omega.{arith}
 use borrow.Author.Tests.{lt-ltb, le-ltb, ltb-true, ltb-false}
 use lib.Dec.{ltb}
-use Rattle.refusal.specs.Laws.Bools.{either}
-use Rattle.refusal.specs.Pick.{pick}
+use Rattle.prelude.specs.Laws.Bools.{either}
+use Rattle.prelude.specs.Pick.{pick}
 use Rattle.bankdef.specs.declared.Bankdef.{Bankdef}
 use Rattle.bankdef.specs.Fill.{raisedTo, fillEnd, fillFrom, fullLength}
 use Rattle.bankdef.specs.Laws.FullFill.{filled-by-end}

@@ -5,12 +5,12 @@ use mathlib.Core.List.{List, [], _∷_}
 use lib.Dec.{ltb, leb}
 use lib.IntN.{pos}
 use lib.ListN.{length, getD, take, drop}
-use Rattle.refusal.specs.Limits.{maxBanks}
-use Rattle.refusal.specs.Pick.{pick}
-use Rattle.refusal.specs.declared.Opt.the-variants.{None}
-use Rattle.refusal.specs.declared.Refusal.the-variants.{BankCount, BankNumber, BanksOverlap}
-use Rattle.refusal.specs.declared.Verdict.{Verdict}
-use Rattle.refusal.specs.declared.Verdict.the-variants.{Accepted, Refused}
+use Rattle.prelude.specs.Limits.{maxBanks}
+use Rattle.prelude.specs.Pick.{pick}
+use Rattle.prelude.specs.declared.Opt.the-variants.{None}
+use Rattle.prelude.specs.declared.Refusal.the-variants.{BankCount, BankNumber, BanksOverlap}
+use Rattle.prelude.specs.declared.Verdict.{Verdict}
+use Rattle.prelude.specs.declared.Verdict.the-variants.{Accepted, Refused}
 use Rattle.bankdef.specs.declared.Bankdef.{Bankdef}
 use Rattle.bankdef.specs.declared.Bankdefs.{Bankdefs}
 use Rattle.bankdef.specs.Search.{firstWhere, someWhere}

@@ -2,8 +2,8 @@
 use Prim.Native.Nat.{ℕ, _+_}
 use mathlib.Core.Bool.{Bool, true, false, _&&_}
 use lib.Dec.{ltb}
-use Rattle.refusal.specs.declared.Opt.{Opt}
-use Rattle.refusal.specs.declared.Opt.the-variants.{None, Some}
+use Rattle.prelude.specs.declared.Opt.{Opt}
+use Rattle.prelude.specs.declared.Opt.the-variants.{None, Some}
 use Rattle.bankdef.specs.declared.Bankdef.{Bankdef}
 
 -- Of two offsets, each with the size there: "Two without size always overlap. A sized bank overlaps an unsized one when its end is

@@ -5,10 +5,10 @@ use mathlib.Core.List.{List}
 use mathlib.Core.Logic.{_⊎_}
 use Prim.Native.Nat.{ℕ, _≤_, _<_}
 use lib.ListN.{length, getD}
-use Rattle.refusal.specs.declared.Opt.the-variants.{Some}
-use Rattle.refusal.specs.declared.Refusal.the-variants.{BanksOverlap}
-use Rattle.refusal.specs.declared.Verdict.{Verdict}
-use Rattle.refusal.specs.declared.Verdict.the-variants.{Accepted, Refused}
+use Rattle.prelude.specs.declared.Opt.the-variants.{Some}
+use Rattle.prelude.specs.declared.Refusal.the-variants.{BanksOverlap}
+use Rattle.prelude.specs.declared.Verdict.{Verdict}
+use Rattle.prelude.specs.declared.Verdict.the-variants.{Accepted, Refused}
 use Rattle.bankdef.specs.declared.Bankdef.{Bankdef}
 use Rattle.bankdef.specs.Overlap.{rangesOverlap}
 use Rattle.bankdef.specs.Check.{noBank}

@@ -4,7 +4,7 @@ use mathlib.Core.List.{List, [], _∷_}
 use Prim.Native.Nat.{ℕ, suc}
 use lib.Dec.{ltb}
 use lib.ListN.{length}
-use Rattle.refusal.specs.Pick.{pick}
+use Rattle.prelude.specs.Pick.{pick}
 
 -- How many elements stand before the first that passes the test: its index, or the list's length where none passes.
 unfoldable pub firstWhere : {A : Type 0} → (A → Bool) → List A → ℕ

@@ -2,8 +2,8 @@
 use Prim.Native.Nat.{ℕ}
 use mathlib.Core.Path.{_≡_}
 use mathlib.Core.Bool.{true, false}
-use Rattle.refusal.specs.Told.{Told, gives, refuses, Nothing, nothing}
-use Rattle.refusal.specs.declared.Place.the-variants.{One, Two}
+use Rattle.prelude.specs.Told.{Told, gives, refuses, Nothing, nothing}
+use Rattle.prelude.specs.declared.Place.the-variants.{One, Two}
 use Rattle.bankdef.specs.declared.Bankdefs.{Bankdefs}
 use Rattle.bankdef.specs.Check.{banksOf, countSound}
 use Rattle.bankdef.specs.Pairs.{OverlapAt, FirstOverlap}

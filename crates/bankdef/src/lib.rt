@@ -1,20 +1,20 @@
 // The bank record and the table of banks: refusals 1, 2 and 3, and the fill's length.
-use refusal::MAX_BANKS;
-use refusal::MAX_START;
-use refusal::Opt;
-use refusal::Refusal;
-use refusal::Verdict;
+use prelude::MAX_BANKS;
+use prelude::MAX_START;
+use prelude::Opt;
+use prelude::Refusal;
+use prelude::Verdict;
 ghost use mathlib.Core.Path.{_≡_};
 ghost use Prim.Native.Nat.{_+_, _≤_, _<_};
 ghost use lib.Dec.{eqb, ltb};
 ghost use lib.IntN.{natAbs};
 ghost use lib.ListN.{take, drop, getD};
-ghost use Rattle.refusal.specs.Limits.{maxBanks, maxOffer};
-ghost use Rattle.refusal.specs.Pick.{pick};
+ghost use Rattle.prelude.specs.Limits.{maxBanks, maxOffer};
+ghost use Rattle.prelude.specs.Pick.{pick};
 ghost use Rattle.bankdef.specs.Numbers.{isZero, bankFault};
 ghost use Rattle.bankdef.specs.Overlap.{rangesOverlap, pairOverlaps};
 ghost use Rattle.bankdef.specs.Search.{firstWhere};
-ghost use Rattle.refusal.specs.Told.{toldVerdict};
+ghost use Rattle.prelude.specs.Told.{toldVerdict};
 ghost use Rattle.bankdef.specs.Check.{firstFault, firstPair, noBank, banksOf, checkOf};
 ghost use Rattle.bankdef.specs.Told.{Checks};
 ghost use Rattle.bankdef.specs.Fill.{fillEnd, fillBy};

@@ -6,7 +6,7 @@ use Prim.Native.Nat.{ℕ, _+_, _-_, _*_, _/_, _%_, _^_, _≤_, _<_}
 use native.Mathlib.Omega.{arith}
 use lib.ListN.{length, getD, set, drop}
 use borrow.Author.Tests.{le-leb, lt-leb}
-use Rattle.refusal.specs.declared.Refusal.the-variants.{Malformed, TooShort}
+use Rattle.prelude.specs.declared.Refusal.the-variants.{Malformed, TooShort}
 use Rattle.bitvec.specs.declared.Hex.the-variants.{Digits, Refused}
 use Rattle.bitvec.specs.Within.{endsWithin}
 use Rattle.bitvec.specs.Lists.{listOf}

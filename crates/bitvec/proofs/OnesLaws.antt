@@ -8,8 +8,8 @@ use native.Mathlib.Nat.{pow-zero, pow-suc}
 use native.Mathlib.Omega.{arith}
 use lib.ListN.{length, getD, set, length-set}
 use lib.Seq.{getD-set-same, getD-set-other}
-use Rattle.refusal.specs.Laws.Bools.{clash}
-use Rattle.refusal.specs.Pick.{pick}
+use Rattle.prelude.specs.Laws.Bools.{clash}
+use Rattle.prelude.specs.Pick.{pick}
 use Rattle.bitvec.specs.Numeral.{numeral, bitOf}
 use Rattle.bitvec.specs.Laws.Numeral.{pick-lt, bitOf-numeral}
 use Rattle.bitvec.specs.Bits.{bitAt, Bytes}

@@ -8,9 +8,9 @@ use native.Mathlib.Nat.{div-add-mod'}
 use native.Mathlib.Omega.{arith}
 use lib.ListN.{length, getD, set, length-set}
 use lib.Seq.{ext-getD, getD-set-same, getD-set-other}
-use Rattle.refusal.specs.Pick.{pick}
-use Rattle.refusal.specs.declared.Refusal.the-variants.{Malformed}
-use Rattle.refusal.specs.declared.Verdict.the-variants.{Accepted, Refused}
+use Rattle.prelude.specs.Pick.{pick}
+use Rattle.prelude.specs.declared.Refusal.the-variants.{Malformed}
+use Rattle.prelude.specs.declared.Verdict.the-variants.{Accepted, Refused}
 use Rattle.bitvec.specs.Numeral.{numeral, bitOf, Bits}
 use Rattle.bitvec.specs.Laws.Numeral.{pick-lt, numeral-cong, numeral-lt, numeral-add, numeral-field, numeral-spliced, numeral-shifted}
 use Rattle.bitvec.specs.Laws.Numeral.{bitOf-numeral, numeral-bitOf}

@@ -4,9 +4,9 @@ use mathlib.Core.Bool.{Bool, true, false}
 use mathlib.Core.List.{List}
 use mathlib.Core.Path.{_≡_, refl}
 use native.Mathlib.Omega.{arith}
-use Rattle.refusal.specs.Laws.Outcome.{OneOutcome, OneView}
-use Rattle.refusal.specs.Laws.Pick.{determined, paired}
-use Rattle.refusal.specs.declared.Verdict.{Verdict}
+use Rattle.prelude.specs.Laws.Outcome.{OneOutcome, OneView}
+use Rattle.prelude.specs.Laws.Pick.{determined, paired}
+use Rattle.prelude.specs.declared.Verdict.{Verdict}
 use Rattle.bitvec.specs.Bits.{bitAt}
 use Rattle.bitvec.specs.Ones.{OneBetween, AnyOne}
 use Rattle.bitvec.specs.declared.Hex.{Hex}

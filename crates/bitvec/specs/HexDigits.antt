@@ -7,10 +7,10 @@ use mathlib.Core.List.{List, _++_}
 use Prim.Native.Nat.{ℕ, _+_, _*_, _/_, _≤_, _<_}
 use lib.Dec.{leb, ltb}
 use lib.ListN.{length, drop}
-use Rattle.refusal.specs.Pick.{pick}
-use Rattle.refusal.specs.Told.{Told, gives, refuses, toldRefusal}
-use Rattle.refusal.specs.declared.Place.the-variants.{One}
-use Rattle.refusal.specs.declared.Refusal.the-variants.{Malformed, TooShort}
+use Rattle.prelude.specs.Pick.{pick}
+use Rattle.prelude.specs.Told.{Told, gives, refuses, toldRefusal}
+use Rattle.prelude.specs.declared.Place.the-variants.{One}
+use Rattle.prelude.specs.declared.Refusal.the-variants.{Malformed, TooShort}
 use Rattle.bitvec.specs.declared.Hex.{Hex}
 use Rattle.bitvec.specs.declared.Hex.the-variants.{Digits, Refused}
 use Rattle.bitvec.specs.Within.{endsWithin}

@@ -6,12 +6,12 @@ use mathlib.Core.List.{List, []}
 use Prim.Native.Nat.{ℕ, _+_, _*_, _/_, _%_, _≤_, _<_}
 use lib.Dec.{ltb, eqb}
 use lib.ListN.{length, take, drop}
-use Rattle.refusal.specs.Pick.{pick}
-use Rattle.refusal.specs.Told.{Told, gives, refuses, Nothing, nothing, toldVerdict}
-use Rattle.refusal.specs.declared.Place.the-variants.{One}
-use Rattle.refusal.specs.declared.Refusal.the-variants.{BadPart}
-use Rattle.refusal.specs.declared.Verdict.{Verdict}
-use Rattle.refusal.specs.declared.Verdict.the-variants.{Accepted, Refused}
+use Rattle.prelude.specs.Pick.{pick}
+use Rattle.prelude.specs.Told.{Told, gives, refuses, Nothing, nothing, toldVerdict}
+use Rattle.prelude.specs.declared.Place.the-variants.{One}
+use Rattle.prelude.specs.declared.Refusal.the-variants.{BadPart}
+use Rattle.prelude.specs.declared.Verdict.{Verdict}
+use Rattle.prelude.specs.declared.Verdict.the-variants.{Accepted, Refused}
 use Rattle.bitvec.specs.Within.{endsWithin}
 
 -- 16 is given when "a part of an image is empty, outside it, or not on byte edges"; this is the contrary.

@@ -3,7 +3,7 @@ use mathlib.Core.Path.{_≡_}
 use mathlib.Core.List.{List, _++_}
 use Prim.Native.Nat.{ℕ, _-_, _*_, _/_}
 use lib.ListN.{length, drop}
-use Rattle.refusal.specs.Pick.{pick}
+use Rattle.prelude.specs.Pick.{pick}
 use Rattle.bitvec.specs.Within.{covers}
 use Rattle.bitvec.specs.Lists.{listOf}
 use Rattle.bitvec.specs.Numeral.{numeral, bitOf}

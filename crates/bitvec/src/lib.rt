@@ -1,6 +1,6 @@
 // Bits of lent bytes: an image is cleared and written, printed in hex, and handed out in parts. Bits run from the top of each byte.
-use refusal::Refusal;
-use refusal::Verdict;
+use prelude::Refusal;
+use prelude::Verdict;
 ghost use mathlib.Core.Path.{_≡_};
 ghost use mathlib.Core.List.{_++_};
 ghost use Prim.Native.Nat.{_+_, _*_, _/_, _^_, _≤_, _<_, min};

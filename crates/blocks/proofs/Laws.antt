@@ -10,9 +10,9 @@ use borrow.Author.Tests.{eq-eqb, ne-eqb, le-leb, lt-leb, leb-true}
 use lib.Dec.{leb}
 use lib.ListN.{length, getD, set, drop}
 use lib.Seq.{drop-cons, drop-length}
-use Rattle.refusal.specs.declared.Offset.{Offset}
-use Rattle.refusal.specs.declared.Offset.the-variants.{None, At}
-use Rattle.refusal.specs.Limits.{maxNodes, maxOffer, maxPosition}
+use Rattle.prelude.specs.declared.Offset.{Offset}
+use Rattle.prelude.specs.declared.Offset.the-variants.{None, At}
+use Rattle.prelude.specs.Limits.{maxNodes, maxOffer, maxPosition}
 use Rattle.blocks.specs.declared.Block.{Block}
 use Rattle.blocks.specs.Offsets.{noOffset, offsetOf}
 use Rattle.blocks.specs.Put.{Put}

@@ -10,10 +10,10 @@ use borrow.Author.Tests.{le-leb, lt-leb}
 use lib.Dec.{leb}
 use lib.ListN.{length, getD, take, drop, drop-of-length-le}
 use lib.Seq.{drop-cons, take-at, length-take-le}
-use Rattle.refusal.specs.declared.Offset.the-variants.{At}
-use Rattle.refusal.specs.declared.Verdict.{Verdict}
-use Rattle.refusal.specs.Limits.{maxNodes}
-use Rattle.refusal.specs.Laws.Pick.{pick-true}
+use Rattle.prelude.specs.declared.Offset.the-variants.{At}
+use Rattle.prelude.specs.declared.Verdict.{Verdict}
+use Rattle.prelude.specs.Limits.{maxNodes}
+use Rattle.prelude.specs.Laws.Pick.{pick-true}
 use Rattle.sort.specs.Laws.Agree.{all-at, sorted-map}
 use Rattle.sort.specs.Numbers.{numbersFrom, numbersOf, keyAt, order}
 use Rattle.sort.specs.Theorems.OrderFacts.{order-length, order-below}

@@ -4,10 +4,10 @@ use mathlib.Core.Bool.{Bool, true, false}
 use mathlib.Core.List.{List}
 use Prim.Native.Nat.{ℕ}
 use lib.ListN.{length}
-use Rattle.refusal.specs.declared.Place.the-variants.{One}
-use Rattle.refusal.specs.declared.Refusal.the-variants.{Malformed, TooShort}
-use Rattle.refusal.specs.Pick.{pick}
-use Rattle.refusal.specs.Told.{gives, refuses}
+use Rattle.prelude.specs.declared.Place.the-variants.{One}
+use Rattle.prelude.specs.declared.Refusal.the-variants.{Malformed, TooShort}
+use Rattle.prelude.specs.Pick.{pick}
+use Rattle.prelude.specs.Told.{gives, refuses}
 use Rattle.blocks.specs.declared.Blocks.{Blocks}
 use Rattle.blocks.specs.declared.Blocks.the-variants.{Found, Refused}
 use Rattle.blocks.specs.Outcome.{roomFor, toldBy, Written, Contract}

@@ -2,8 +2,8 @@
 use Prim.Native.Nat.{ℕ}
 use native.Mathlib.Omega.{arith}
 use mathlib.Core.List.{List}
-use Rattle.refusal.specs.Laws.Outcome.{OneOutcome, OneView}
-use Rattle.refusal.specs.Laws.Pick.{determined, paired}
+use Rattle.prelude.specs.Laws.Outcome.{OneOutcome, OneView}
+use Rattle.prelude.specs.Laws.Pick.{determined, paired}
 use Rattle.blocks.specs.declared.Blocks.{Blocks}
 use Rattle.blocks.proofs.get_blocks.Kinds as get-blocks-kinds
 use Rattle.blocks.proofs.get_blocks.Reads as get-blocks-reads

@@ -3,9 +3,9 @@ use mathlib.Core.Path.{_≡_}
 use mathlib.Core.List.{List}
 use Prim.Native.Nat.{ℕ, _≤_, _<_}
 use lib.ListN.{length, getD}
-use Rattle.refusal.specs.declared.Offset.{Offset}
-use Rattle.refusal.specs.declared.Offset.the-variants.{None, At}
-use Rattle.refusal.specs.Limits.{maxNodes, maxOffer, maxPosition}
+use Rattle.prelude.specs.declared.Offset.{Offset}
+use Rattle.prelude.specs.declared.Offset.the-variants.{None, At}
+use Rattle.prelude.specs.Limits.{maxNodes, maxOffer, maxPosition}
 use Rattle.blocks.specs.Offsets.{offsetOf}
 
 -- "offer to the store: position to 8,589,934,590, size to 4,294,967,295"; a span may have no offset.

@@ -2,8 +2,8 @@
 -- lies in some span that has an offset, and blocks of spans that share no bit share none.
 use mathlib.Core.List.{List, [], _∷_, List·Memᴰ}
 use Prim.Native.Nat.{ℕ, _+_, _≤_, _<_}
-use Rattle.refusal.specs.declared.Offset.{Offset}
-use Rattle.refusal.specs.declared.Offset.the-variants.{None, At}
+use Rattle.prelude.specs.declared.Offset.{Offset}
+use Rattle.prelude.specs.declared.Offset.the-variants.{None, At}
 use Rattle.blocks.specs.declared.Block.{Block}
 use Rattle.blocks.specs.Spans.{Span}
 

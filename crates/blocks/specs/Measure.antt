@@ -1,8 +1,8 @@
 -- Whatever adds up where one run of bits follows another has the same sum over the blocks as over the spans that have an offset. Sizes
 -- do, and so does the number of times that a bit is covered.
 use Prim.Native.Nat.{ℕ}
-use Rattle.refusal.specs.declared.Offset.{Offset}
-use Rattle.refusal.specs.declared.Offset.the-variants.{None, At}
+use Rattle.prelude.specs.declared.Offset.{Offset}
+use Rattle.prelude.specs.declared.Offset.the-variants.{None, At}
 use Rattle.blocks.specs.Spans.{Span}
 
 -- A span without offset counts nothing.

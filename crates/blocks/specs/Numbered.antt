@@ -4,7 +4,7 @@ use mathlib.Core.Bool.{true}
 use mathlib.Core.List.{List, map}
 use Prim.Native.Nat.{ℕ, _≤_, _<_}
 use lib.ListN.{length, getD}
-use Rattle.refusal.specs.Limits.{maxNodes}
+use Rattle.prelude.specs.Limits.{maxNodes}
 use Rattle.blocks.specs.declared.Block.{Block}
 use Rattle.blocks.specs.Spans.{Span, span, within}
 use Rattle.blocks.specs.Walk.{block, blocksFrom}

@@ -1,8 +1,8 @@
 -- "a span whose offset is none is passed over": the blocks are those of the spans that have an offset, wherever the others stand and in whatever
 -- order they are taken.
 use mathlib.Core.List.{List, [], _∷_}
-use Rattle.refusal.specs.declared.Offset.{Offset}
-use Rattle.refusal.specs.declared.Offset.the-variants.{None, At}
+use Rattle.prelude.specs.declared.Offset.{Offset}
+use Rattle.prelude.specs.declared.Offset.the-variants.{None, At}
 use Rattle.blocks.specs.Spans.{Span}
 
 -- The spans that have an offset.

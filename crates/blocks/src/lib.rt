@@ -1,14 +1,14 @@
 // The blocks of an output: its spans, taken by offset, joined where one starts at the end of those before it. The port of
 // `BitVec::get_blocks`.
-use refusal::MAX_OFFER;
-use refusal::MAX_POSITION;
-use refusal::Offset;
-use refusal::Refusal;
+use prelude::MAX_OFFER;
+use prelude::MAX_POSITION;
+use prelude::Offset;
+use prelude::Refusal;
 ghost use mathlib.Core.Path.{_≡_};
 ghost use mathlib.Core.Bool.{true};
 ghost use Prim.Native.Nat.{_+_, _≤_, _<_, _^_};
 ghost use lib.ListN.{length, set};
-ghost use Rattle.refusal.specs.Limits.{maxNodes};
+ghost use Rattle.prelude.specs.Limits.{maxNodes};
 ghost use Rattle.blocks.specs.Numbered.{Walkable, numberedBlocks};
 ghost use Rattle.blocks.specs.Offsets.{OffsetIs, WordIs};
 ghost use Rattle.blocks.specs.Spans.{span, within, spansOf, allWithin, acceptable};

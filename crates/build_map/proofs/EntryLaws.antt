@@ -8,12 +8,12 @@ use Rattle.bitvec.specs.Lists.{listOf}
 use Rattle.bitvec.specs.Laws.Lists.{listOf-more}
 use Rattle.blocks.specs.Offsets.{wordOf}
 use Rattle.iter.specs.declared.Walk.{Walk}
-use Rattle.lists.specs.Kinds.{sizeOf}
-use Rattle.lists.specs.Lists.{Row}
+use Rattle.nodes.specs.Kinds.{sizeOf}
+use Rattle.nodes.specs.Lists.{Row}
 use Rattle.resolver.specs.Once.{Program, walkTo}
 use Rattle.resolver.specs.Walking.{Walks}
-use Rattle.build_sights.specs.declared.Visit.{Visit}
-use Rattle.build_sights.specs.Visits.{positionOf, visitAt}
+use Rattle.build_visits.specs.declared.Visit.{Visit}
+use Rattle.build_visits.specs.Visits.{positionOf, visitAt}
 use Rattle.build_map.specs.Map.{bankShown, positionShown, outputShown, sizeShown, shown}
 
 -- a list with the first i entries in it

@@ -6,8 +6,8 @@ use Prim.Native.Nat.{ℕ, zero, suc, _+_, _-_, _*_, _≤_, _<_, min}
 use native.Mathlib.Omega.{arith}
 use lib.ListN.{length, take, drop, replicate, length-set}
 use lib.Seq.{ext-getD}
-use Rattle.refusal.specs.Limits.{maxBanks, maxNodes}
-use Rattle.refusal.specs.Told.{toldVerdict}
+use Rattle.prelude.specs.Limits.{maxBanks, maxNodes}
+use Rattle.prelude.specs.Told.{toldVerdict}
 use Rattle.bankdef.specs.declared.Bankdefs.{Bankdefs}
 use Rattle.bitvec.specs.Lists.{listOf}
 use Rattle.iter.specs.Step.{noLost, startOf, bankAfter}
@@ -15,7 +15,7 @@ use Rattle.iter.specs.Laws.StepCases.{step-cases}
 use Rattle.iter.specs.declared.Lost.{Lost}
 use Rattle.iter.specs.declared.Stepped.{Stepped}
 use Rattle.resolver.specs.Layout.{layoutOf, Checked}
-use Rattle.lists.specs.Lists.{Lists, Row, Rows, rowWith}
+use Rattle.nodes.specs.Lists.{Lists, Row, Rows, rowWith}
 use Rattle.resolver.specs.Once.{Program, node, bankOf, walkTo, programWith}
 use Rattle.resolver.specs.Padding.{paddingTo, sumIn}
 use Rattle.resolver.specs.Laws.Padding.{Walks}
@@ -23,9 +23,9 @@ use Rattle.resolver.specs.Theorems.Padding.{walk-carries-padding}
 use Rattle.resolver.specs.Passes.{program, rowOfPass}
 use Rattle.resolver.specs.Switches.{Switches}
 use Rattle.resolver.specs.Theorems.Switches.{accepted-switches}
-use Rattle.lists.specs.Laws.RowParts.{first-part, row-part}
-use Rattle.lists.specs.Sound.{SoundLists}
-use Rattle.lists.specs.Theorems.Sound.{accepted-lists}
+use Rattle.nodes.specs.Laws.RowParts.{first-part, row-part}
+use Rattle.nodes.specs.Sound.{SoundLists}
+use Rattle.nodes.specs.Theorems.Sound.{accepted-lists}
 use Rattle.resolver.specs.declared.Choices.{Choices}
 use Rattle.resolver.specs.declared.Resolution.{Resolution}
 use Rattle.resolver.specs.declared.Settled.{Settled}

@@ -3,9 +3,9 @@ use mathlib.Core.Path.{_≡_, refl, sym, ap, _∙_}
 use Prim.Native.Nat.{ℕ, _+_}
 use native.Mathlib.Numerals.{add-one}
 use borrow.Author.Tests.{eq-eqb, ne-eqb}
-use Rattle.refusal.specs.Refusals.{numberOf}
-use Rattle.refusal.specs.declared.Refusal.{Refusal}
-use Rattle.refusal.specs.declared.Verdict.the-variants.{Refused}
+use Rattle.prelude.specs.Refusals.{numberOf}
+use Rattle.prelude.specs.declared.Refusal.{Refusal}
+use Rattle.prelude.specs.declared.Verdict.the-variants.{Refused}
 use Rattle.build_map.specs.Map.{nodeOf, metReach}
 use Rattle.build_map.specs.declared.Fault.{Fault}
 use Rattle.build_map.specs.declared.Fault.the-variants.{None, At as AtNode}

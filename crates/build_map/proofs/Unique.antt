@@ -2,8 +2,8 @@
 use borrow.Fn.Kinds.{endedOf}
 use contract.Lifetimes.{Lfts}
 use denote.Triple.Clauses.{AtExit}
-use Rattle.refusal.specs.Laws.Outcome.{OneView}
-use Rattle.refusal.specs.Laws.Pick.{paired}
+use Rattle.prelude.specs.Laws.Outcome.{OneView}
+use Rattle.prelude.specs.Laws.Pick.{paired}
 use Rattle.build_map.specs.Map.{Lent, lent}
 use Rattle.build_map.specs.Theorems.Unique.{map-unique}
 use Rattle.build_map.specs.declared.Map.{Map}

@@ -1,12 +1,12 @@
 -- A call of the map, as its contract has it.
 use Prim.Native.Nat.{ℕ}
 use lib.ListN.{length}
-use Rattle.lists.specs.Lists.{Row}
+use Rattle.nodes.specs.Lists.{Row}
 use Rattle.resolver.specs.Once.{Program}
 use Rattle.resolver.specs.Passes.{program, rowOfPass}
 use Rattle.output.specs.Output.{Input}
-use Rattle.build_sights.specs.Visits.{visitAt}
-use Rattle.build_sights.specs.declared.Visit.{Visit}
+use Rattle.build_visits.specs.Visits.{visitAt}
+use Rattle.build_visits.specs.declared.Visit.{Visit}
 use Rattle.build_map.specs.Map.{Lent, Maps}
 use Rattle.build_map.specs.declared.Map.{Map}
 

@@ -6,29 +6,29 @@ use mathlib.Core.List.{List, _++_}
 use Prim.Native.Nat.{ℕ, suc, _-_}
 use lib.Dec.{eqb}
 use lib.ListN.{length, drop}
-use Rattle.refusal.specs.Pick.{pick}
-use Rattle.refusal.specs.Refusals.{numberOf, placeOf}
-use Rattle.refusal.specs.Told.{Told, gives, Nothing, nothing, toldRefusal, toldVerdict}
-use Rattle.refusal.specs.declared.Place.{Place}
-use Rattle.refusal.specs.declared.Place.the-variants.{One, Two}
-use Rattle.refusal.specs.declared.Refusal.{Refusal}
-use Rattle.refusal.specs.declared.Verdict.{Verdict}
-use Rattle.refusal.specs.declared.Verdict.the-variants.{Accepted, Refused}
+use Rattle.prelude.specs.Pick.{pick}
+use Rattle.prelude.specs.Refusals.{numberOf, placeOf}
+use Rattle.prelude.specs.Told.{Told, gives, Nothing, nothing, toldRefusal, toldVerdict}
+use Rattle.prelude.specs.declared.Place.{Place}
+use Rattle.prelude.specs.declared.Place.the-variants.{One, Two}
+use Rattle.prelude.specs.declared.Refusal.{Refusal}
+use Rattle.prelude.specs.declared.Verdict.{Verdict}
+use Rattle.prelude.specs.declared.Verdict.the-variants.{Accepted, Refused}
 use Rattle.bitvec.specs.Lists.{listOf}
 use Rattle.blocks.specs.Offsets.{wordOf}
 use Rattle.iter.specs.declared.Lost.{Lost}
-use Rattle.lists.specs.Kinds.{sizeOf}
-use Rattle.lists.specs.Lists.{Row}
+use Rattle.nodes.specs.Kinds.{sizeOf}
+use Rattle.nodes.specs.Lists.{Row}
 use Rattle.resolver.specs.Once.{Program}
 use Rattle.resolver.specs.Padding.{paddingTo}
 use Rattle.resolver.specs.Passes.{program, rowOfPass}
 use Rattle.resolver.specs.declared.Settled.{Settled}
 use Rattle.resolver.specs.declared.Settled.the-variants.{At, Refused as Unsettled}
-use Rattle.build_sights.specs.Visits.{positionOf, visitAt}
+use Rattle.build_visits.specs.Visits.{positionOf, visitAt}
 use Rattle.build_plan.specs.Placing.{Placed, holds, stops, placedAll, walkedAll}
 use Rattle.build_plan.specs.Plan.{ofBanks}
 use Rattle.output.specs.Output.{Input, closedOf, visitsOf, passesOf, settledOf}
-use Rattle.build_sights.specs.declared.Visit.{Visit}
+use Rattle.build_visits.specs.declared.Visit.{Visit}
 use Rattle.build_map.specs.declared.Fault.{Fault}
 use Rattle.build_map.specs.declared.Fault.the-variants.{None, At as AtNode}
 use Rattle.build_map.specs.declared.Reach.{Reach}

@@ -3,16 +3,16 @@ use mathlib.Core.Path.{_≡_}
 use mathlib.Core.Bool.{Bool}
 use Prim.Native.Nat.{ℕ, _<_}
 use lib.ListN.{length, replicate}
-use Rattle.refusal.specs.Limits.{maxNodes}
-use Rattle.refusal.specs.Refusals.{numberOf}
-use Rattle.refusal.specs.declared.Verdict.{Verdict}
-use Rattle.refusal.specs.declared.Verdict.the-variants.{Accepted, Refused}
+use Rattle.prelude.specs.Limits.{maxNodes}
+use Rattle.prelude.specs.Refusals.{numberOf}
+use Rattle.prelude.specs.declared.Verdict.{Verdict}
+use Rattle.prelude.specs.declared.Verdict.the-variants.{Accepted, Refused}
 use Rattle.iter.specs.Step.{noLost}
-use Rattle.lists.specs.Lists.{Row}
+use Rattle.nodes.specs.Lists.{Row}
 use Rattle.resolver.specs.Once.{Program, walkTo}
 use Rattle.resolver.specs.declared.Settled.{Settled}
 use Rattle.resolver.specs.declared.Settled.the-variants.{At, Refused as Unsettled}
-use Rattle.build_sights.specs.Visits.{visits}
+use Rattle.build_visits.specs.Visits.{visits}
 use Rattle.build_map.specs.Map.{nodeOf, settledReach, mapBy, Lent, leftBy}
 use Rattle.build_map.specs.declared.Fault.the-variants.{None}
 use Rattle.build_map.specs.declared.Reach.{Reach}

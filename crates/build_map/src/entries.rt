@@ -9,17 +9,17 @@ use iter::get_output_position;
 use iter::lost_after;
 use iter::pace_of_parts;
 use iter::start;
-use lists::Node;
-use lists::node_at;
-use lists::size_of;
+use nodes::Node;
+use nodes::node_at;
+use nodes::size_of;
 ghost use mathlib.Core.Path.{_≡_};
 ghost use Prim.Native.Nat.{_≤_};
 ghost use lib.ListN.{length};
-ghost use Rattle.refusal.specs.Limits.{maxNodes};
+ghost use Rattle.prelude.specs.Limits.{maxNodes};
 ghost use Rattle.iter.specs.Pace.{Paces};
 ghost use Rattle.resolver.specs.Once.{walkTo, programWith};
 ghost use Rattle.resolver.specs.Switches.{Switches};
-ghost use Rattle.lists.specs.Lists.{rowWith};
+ghost use Rattle.nodes.specs.Lists.{rowWith};
 ghost use Rattle.build_map.specs.Map.{shown, bankShown, positionShown, outputShown, sizeShown};
 
 // The step over one node, by its parts. It is the build's own (`iter::pace`), kind by kind; this second caller keeps that function out of the build's loops,

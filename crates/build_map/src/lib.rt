@@ -6,7 +6,7 @@ mod tracing;
 
 use iter::Lost;
 pub use maps::map_nodes;
-use refusal::Verdict;
+use prelude::Verdict;
 
 // The node at which a layout is refused, where it is refused at one.
 pub enum Fault {

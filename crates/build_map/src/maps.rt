@@ -6,9 +6,9 @@ use crate::entries::write_entries;
 use crate::tracing::trace_row;
 use bankdef::Bankdefs;
 use iter::Lost;
-use refusal::Place;
-use refusal::Refusal;
-use refusal::Verdict;
+use prelude::Place;
+use prelude::Refusal;
+use prelude::Verdict;
 use resolver::Choices;
 use resolver::Settled;
 ghost use mathlib.Core.Path.{_≡_};
@@ -16,9 +16,9 @@ ghost use Prim.Native.Nat.{_≤_, _<_};
 ghost use lib.ListN.{length};
 ghost use Rattle.resolver.specs.Once.{programWith};
 ghost use Rattle.resolver.specs.Switches.{Switches};
-ghost use Rattle.refusal.specs.Limits.{maxNodes};
-ghost use Rattle.refusal.specs.Refusals.{numberOf};
-ghost use Rattle.lists.specs.Lists.{lists, rowWith};
+ghost use Rattle.prelude.specs.Limits.{maxNodes};
+ghost use Rattle.prelude.specs.Refusals.{numberOf};
+ghost use Rattle.nodes.specs.Lists.{lists, rowWith};
 ghost use Rattle.output.specs.Output.{input};
 ghost use Rattle.build_map.specs.Map.{nodeOf, metReach, firstIn, lent, Maps};
 ghost use Rattle.build_map.specs.Steps.{Few, rowReach, RowMapped, verdictOf, mapless};
@@ -47,8 +47,8 @@ fn met(why: Refusal, n: u64) -> Reach
     requires { ⌜ (numberOf why ≡ 7 → nodeOf why < maxNodes) ⌝ }
     ensures { λ r. ⌜ r ≡ metReach n why ⌝ }
 {
-    let number = refusal::number(why);
-    let node = first_in(refusal::place_of(why));
+    let number = prelude::number(why);
+    let node = first_in(prelude::place_of(why));
     if number == 5 {
         return reach(why, node, Fault::At(node));
     }

@@ -3,16 +3,16 @@ use crate::Fault;
 use crate::Reach;
 use bankdef::Bankdefs;
 use build_plan::meet_row;
-use refusal::Refusal;
-use refusal::Verdict;
+use prelude::Refusal;
+use prelude::Verdict;
 ghost use mathlib.Core.Path.{_≡_};
 ghost use Prim.Native.Nat.{_≤_};
 ghost use lib.ListN.{length};
-ghost use Rattle.refusal.specs.Limits.{maxNodes};
+ghost use Rattle.prelude.specs.Limits.{maxNodes};
 ghost use Rattle.resolver.specs.Once.{programWith};
 ghost use Rattle.resolver.specs.Switches.{Switches};
-ghost use Rattle.lists.specs.Lists.{rowWith};
-ghost use Rattle.build_sights.specs.Visits.{visits};
+ghost use Rattle.nodes.specs.Lists.{rowWith};
+ghost use Rattle.build_visits.specs.Visits.{visits};
 ghost use Rattle.build_map.specs.Map.{traced, wholeReach, stoppedReach};
 
 fn whole(n: u64) -> Reach

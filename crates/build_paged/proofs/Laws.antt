@@ -1,12 +1,12 @@
 -- The build in the profile, return by return.
 use Prim.Native.Nat.{ℕ}
 use mathlib.Core.Path.{_≡_, refl, sym, ap, _∙_}
-use Rattle.refusal.specs.declared.Refusal.{Refusal}
-use Rattle.refusal.specs.declared.Verdict.{Verdict}
-use Rattle.refusal.specs.declared.Verdict.the-variants.{Accepted, Refused}
+use Rattle.prelude.specs.declared.Refusal.{Refusal}
+use Rattle.prelude.specs.declared.Verdict.{Verdict}
+use Rattle.prelude.specs.declared.Verdict.the-variants.{Accepted, Refused}
 use Rattle.bankdef.specs.Check.{checkOf}
 use Rattle.resolver.specs.Layout.{Checked}
-use Rattle.lists.specs.Lists.{listsOf, firstOf}
+use Rattle.nodes.specs.Lists.{listsOf, firstOf}
 use Rattle.output.specs.Output.{Input, Lent, Room, roomOf, refusedAfter, settledOf, toldBuild, settledTold, Builds}
 use Rattle.output.specs.declared.Output.{Output}
 use Rattle.build_profile.specs.Kept.{Judged, keeps, breaks}

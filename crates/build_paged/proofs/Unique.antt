@@ -2,8 +2,8 @@
 use borrow.Fn.Kinds.{endedOf}
 use contract.Lifetimes.{Lfts}
 use denote.Triple.Clauses.{AtExit}
-use Rattle.refusal.specs.Laws.Outcome.{OneView}
-use Rattle.refusal.specs.Laws.Pick.{paired}
+use Rattle.prelude.specs.Laws.Outcome.{OneView}
+use Rattle.prelude.specs.Laws.Pick.{paired}
 use Rattle.output.specs.Output.{Lent, lent}
 use Rattle.output.specs.declared.Output.{Output}
 use Rattle.build_paged.specs.Theorems.InProfile.{one-outcome}

@@ -1,14 +1,14 @@
 -- A build in the profile (document 02, Ticket 9): its answer, and what stands in everything lent afterwards.
 use Prim.Native.Nat.{ℕ}
 use mathlib.Core.Path.{_≡_}
-use Rattle.refusal.specs.Told.{Told, refuses, toldRefusal}
-use Rattle.refusal.specs.declared.Place.the-variants.{Two}
-use Rattle.refusal.specs.declared.Refusal.{Refusal}
-use Rattle.refusal.specs.declared.Verdict.{Verdict}
-use Rattle.refusal.specs.declared.Verdict.the-variants.{Accepted, Refused}
+use Rattle.prelude.specs.Told.{Told, refuses, toldRefusal}
+use Rattle.prelude.specs.declared.Place.the-variants.{Two}
+use Rattle.prelude.specs.declared.Refusal.{Refusal}
+use Rattle.prelude.specs.declared.Verdict.{Verdict}
+use Rattle.prelude.specs.declared.Verdict.the-variants.{Accepted, Refused}
 use Rattle.bankdef.specs.Check.{checkOf}
 use Rattle.resolver.specs.Layout.{Checked}
-use Rattle.lists.specs.Lists.{listsOf}
+use Rattle.nodes.specs.Lists.{listsOf}
 use Rattle.output.specs.Output.{Input, Lent, Room, roomOf, visitsOf, leftBy, buildOf, refusedAfter, settledOf, Figures, toldBuild, settledTold}
 use Rattle.output.specs.declared.Output.{Output}
 use Rattle.build_profile.specs.Kept.{InProfile, Breaks}

@@ -2,12 +2,12 @@
 -- has an offset, the image's length is whole pages.
 use Prim.Native.Nat.{ℕ, _+_, _<_, _≤_}
 use mathlib.Core.Path.{_≡_}
-use Rattle.refusal.specs.declared.Opt.the-variants.{Some}
+use Rattle.prelude.specs.declared.Opt.the-variants.{Some}
 use Rattle.bankdef.specs.declared.Bankdefs.{Bankdefs}
 use Rattle.resolver.specs.Once.{bankRecord}
 use Rattle.output.specs.Calls.{Accepted, nodesIn, visitIn}
 use Rattle.output.specs.ItemBits.{itemFor}
-use Rattle.build_sights.specs.Items.{Item, endOf}
+use Rattle.build_visits.specs.Items.{Item, endOf}
 
 -- ---- a written item stands within its bank
 

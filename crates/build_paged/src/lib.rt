@@ -5,11 +5,11 @@ use iter::Lost;
 use output::Build;
 use output::Output;
 use output::build_output;
-use refusal::Refusal;
-use refusal::Verdict;
+use prelude::Refusal;
+use prelude::Verdict;
 use resolver::Choices;
 ghost use mathlib.Core.Path.{_≡_};
-ghost use Rattle.lists.specs.Lists.{lists};
+ghost use Rattle.nodes.specs.Lists.{lists};
 ghost use Rattle.output.specs.Output.{input, lent, refusedAfter};
 ghost use Rattle.build_paged.specs.InProfile.{BuildsInProfile};
 

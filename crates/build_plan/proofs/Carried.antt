@@ -6,20 +6,20 @@ use Prim.Native.Nat.{ℕ, zero, suc, _≤_, _<_}
 use native.Mathlib.Omega.{arith}
 use lib.ListN.{length, getD, length-set}
 use lib.Seq.{ext-getD}
-use Rattle.refusal.specs.Limits.{maxBanks, maxNodes}
+use Rattle.prelude.specs.Limits.{maxBanks, maxNodes}
 use Rattle.iter.specs.Step.{noLost, startOf, bankAfter}
 use Rattle.iter.specs.Laws.StepCases.{step-cases}
 use Rattle.iter.specs.declared.Moved.the-variants.{To}
 use Rattle.iter.specs.declared.Pos.{Pos}
 use Rattle.iter.specs.declared.Stepped.{Stepped}
-use Rattle.lists.specs.Lists.{Row}
+use Rattle.nodes.specs.Lists.{Row}
 use Rattle.resolver.specs.NodeOrder.{seenAt}
 use Rattle.resolver.specs.Once.{Program, node, bankOf, walkTo}
 use Rattle.resolver.specs.Padding.{paddingOf}
 use Rattle.resolver.specs.Theorems.Padding.{walk-carries-padding}
 use Rattle.overlap_checker.specs.State.{State, emptyState}
-use Rattle.build_sights.specs.Visits.{visitAt, visits}
-use Rattle.build_sights.specs.Laws.VisitLaws.{visit-member}
+use Rattle.build_visits.specs.Visits.{visitAt, visits}
+use Rattle.build_visits.specs.Laws.VisitLaws.{visit-member}
 use Rattle.build_plan.specs.Placing.{holds, placedAll}
 use Rattle.build_plan.specs.Laws.PlacingLaws.{each-accepted, seen-placing}
 use Rattle.build_plan.specs.Laws.Plan.{length-of-banks, getD-of-banks}

@@ -5,28 +5,28 @@ use mathlib.Core.List.{List, [], _∷_}
 use Prim.Native.Nat.{ℕ, _+_, max}
 use lib.Dec.{eqb}
 use lib.ListN.{length}
-use Rattle.refusal.specs.Laws.Bools.{unlike, or-else}
-use Rattle.refusal.specs.Pick.{pick}
-use Rattle.refusal.specs.Laws.Pick.{pick-true, pick-false}
-use Rattle.refusal.specs.declared.Offset.{Offset}
-use Rattle.refusal.specs.declared.Offset.the-variants.{None as Nowhere, At as Out}
-use Rattle.refusal.specs.declared.Verdict.{Verdict}
-use Rattle.refusal.specs.declared.Refusal.{Refusal}
-use Rattle.refusal.specs.declared.Verdict.the-variants.{Accepted, Refused}
+use Rattle.prelude.specs.Laws.Bools.{unlike, or-else}
+use Rattle.prelude.specs.Pick.{pick}
+use Rattle.prelude.specs.Laws.Pick.{pick-true, pick-false}
+use Rattle.prelude.specs.declared.Offset.{Offset}
+use Rattle.prelude.specs.declared.Offset.the-variants.{None as Nowhere, At as Out}
+use Rattle.prelude.specs.declared.Verdict.{Verdict}
+use Rattle.prelude.specs.declared.Refusal.{Refusal}
+use Rattle.prelude.specs.declared.Verdict.the-variants.{Accepted, Refused}
 use Rattle.bankdef.specs.declared.Bankdef.{Bankdef}
 use Rattle.iter.specs.declared.Pos.{Pos}
 use Rattle.iter.specs.declared.Moved.{Moved}
 use Rattle.iter.specs.declared.Moved.the-variants.{To, Refused as Stopped}
-use Rattle.lists.specs.Kinds.{isItem}
-use Rattle.lists.specs.declared.Node.{Node}
-use Rattle.lists.specs.Lists.{firstOf}
+use Rattle.nodes.specs.Kinds.{isItem}
+use Rattle.nodes.specs.declared.Node.{Node}
+use Rattle.nodes.specs.Lists.{firstOf}
 use Rattle.overlap_checker.specs.declared.Entry.{Entry}
 use Rattle.overlap_checker.specs.Interval.{interval, Within}
 use Rattle.overlap_checker.specs.State.{State, answer}
 use Rattle.overlap_checker.specs.Folds.{stateAfter}
 use Rattle.overlap_checker.specs.Lent.{Lent as Store, Sound, Offers}
 use Rattle.overlap_checker.specs.Theorems.Going.{state-after, sound-after}
-use Rattle.build_sights.specs.Items.{Item, isWritten, standing, itemAt, lengthOf}
+use Rattle.build_visits.specs.Items.{Item, isWritten, standing, itemAt, lengthOf}
 use Rattle.build_plan.specs.Placing.{isPlaced, isOffered, bitsAt, offerAt, checked, answered, tried, verdictSeen}
 use Rattle.build_plan.specs.Steps.{Goes}
 

@@ -6,14 +6,14 @@ use Prim.Native.Nat.{ℕ, suc, _+_, _≤_, _<_}
 use native.Mathlib.Numerals.{add-one}
 use native.Mathlib.Omega.{arith}
 use lib.ListN.{length, replicate, length-append, length-replicate}
-use Rattle.refusal.specs.Limits.{maxOffer, maxNodes}
-use Rattle.refusal.specs.Pick.{pick}
-use Rattle.refusal.specs.declared.Refusal.{Refusal}
-use Rattle.refusal.specs.declared.Verdict.{Verdict}
-use Rattle.refusal.specs.declared.Verdict.the-variants.{Accepted, Refused}
+use Rattle.prelude.specs.Limits.{maxOffer, maxNodes}
+use Rattle.prelude.specs.Pick.{pick}
+use Rattle.prelude.specs.declared.Refusal.{Refusal}
+use Rattle.prelude.specs.declared.Verdict.{Verdict}
+use Rattle.prelude.specs.declared.Verdict.the-variants.{Accepted, Refused}
 use Rattle.iter.specs.Step.{startOf}
 use Rattle.iter.specs.declared.Walk.{Walk}
-use Rattle.lists.specs.Lists.{Row}
+use Rattle.nodes.specs.Lists.{Row}
 use Rattle.resolver.specs.Once.{Program, walkTo}
 use Rattle.resolver.specs.Laws.Walking.{walks-start}
 use Rattle.resolver.specs.Switches.{Switches}
@@ -24,12 +24,12 @@ use Rattle.overlap_checker.specs.Lent.{Lent as Store, lent as store, stateIn, S
 use Rattle.overlap_checker.specs.Laws.Going.{state-none}
 use Rattle.overlap_checker.specs.Theorems.Going.{sound-none}
 use Rattle.overlap_checker.specs.declared.Offered.{Offered}
-use Rattle.build_sights.specs.declared.Visit.{Visit}
-use Rattle.build_sights.specs.Visits.{visitAt, visitsTo, visits}
-use Rattle.build_sights.specs.Laws.VisitLaws.{visits-none, visits-next, visits-split}
-use Rattle.build_sights.specs.Items.{itemOf, lengthOf}
-use Rattle.build_sights.specs.Spans.{isSpan, spanAt}
-use Rattle.build_sights.specs.Laws.Upto.{spansTo, lengthTo, spans-next, length-next, spans-none, items-none}
+use Rattle.build_visits.specs.declared.Visit.{Visit}
+use Rattle.build_visits.specs.Visits.{visitAt, visitsTo, visits}
+use Rattle.build_visits.specs.Laws.VisitLaws.{visits-none, visits-next, visits-split}
+use Rattle.build_visits.specs.Items.{itemOf, lengthOf}
+use Rattle.build_visits.specs.Spans.{isSpan, spanAt}
+use Rattle.build_visits.specs.Laws.Upto.{spansTo, lengthTo, spans-next, length-next, spans-none, items-none}
 use Rattle.build_plan.specs.declared.Plan.{Plan}
 use Rattle.build_plan.specs.declared.Sums.{Sums}
 use Rattle.build_plan.specs.Placing.{Placed, offerOf, verdictOn, holds, stops, placedIf, placedNext, placedFrom, placedAll, walkedAll}

@@ -3,7 +3,7 @@ use mathlib.Core.List.{List·Memᴰ}
 use Prim.Native.Nat.{ℕ}
 use Rattle.overlap_checker.specs.declared.Entry.{Entry}
 use Rattle.overlap_checker.specs.Interval.{Covers}
-use Rattle.build_sights.specs.declared.Visit.{Visit}
+use Rattle.build_visits.specs.declared.Visit.{Visit}
 use Rattle.build_plan.specs.Placing.{offerOf}
 
 -- ---- no bit is offered twice

@@ -4,18 +4,18 @@ use mathlib.Core.Bool.{Bool}
 use mathlib.Core.List.{List, map}
 use Prim.Native.Nat.{ℕ}
 use lib.ListN.{length, replicate}
-use Rattle.refusal.specs.Limits.{maxBanks}
-use Rattle.refusal.specs.declared.Refusal.{Refusal}
-use Rattle.refusal.specs.declared.Verdict.the-variants.{Accepted, Refused}
+use Rattle.prelude.specs.Limits.{maxBanks}
+use Rattle.prelude.specs.declared.Refusal.{Refusal}
+use Rattle.prelude.specs.declared.Verdict.the-variants.{Accepted, Refused}
 use Rattle.bitvec.specs.Lists.{listOf}
 use Rattle.iter.specs.Step.{noLost}
 use Rattle.iter.specs.declared.Lost.{Lost}
-use Rattle.lists.specs.Lists.{Row}
+use Rattle.nodes.specs.Lists.{Row}
 use Rattle.resolver.specs.Once.{Program}
 use Rattle.resolver.specs.Padding.{paddingOf}
-use Rattle.build_sights.specs.Visits.{visits}
-use Rattle.build_sights.specs.Items.{itemsOf, lengthOf}
-use Rattle.build_sights.specs.Spans.{spansOf}
+use Rattle.build_visits.specs.Visits.{visits}
+use Rattle.build_visits.specs.Items.{itemsOf, lengthOf}
+use Rattle.build_visits.specs.Spans.{spansOf}
 use Rattle.build_plan.specs.Placing.{Placed, holds, stops, placedAll}
 use Rattle.build_plan.specs.declared.Plan.{Plan}
 

@@ -1,16 +1,16 @@
 // Refusals 9, 10 and 11 at a node.
 use bankdef::Bankdef;
 use iter::Pos;
-use lists::Node;
-use lists::is_written;
-use lists::size_of;
-use refusal::Offset;
-use refusal::Opt;
-use refusal::Refusal;
-use refusal::Verdict;
+use nodes::Node;
+use nodes::is_written;
+use nodes::size_of;
+use prelude::Offset;
+use prelude::Opt;
+use prelude::Refusal;
+use prelude::Verdict;
 ghost use mathlib.Core.Path.{_≡_};
 ghost use mathlib.Core.Bool.{_&&_};
-ghost use Rattle.build_sights.specs.Items.{isWritten};
+ghost use Rattle.build_visits.specs.Items.{isWritten};
 ghost use Rattle.build_plan.specs.Placing.{endsPast, lacksOutput, closesDefault, usesDefault, checked};
 
 fn ends_past(size: Opt, end: u64) -> bool

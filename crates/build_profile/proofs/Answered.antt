@@ -4,18 +4,18 @@ use mathlib.Core.Path.{_≡_, refl, sym, _∙_}
 use mathlib.Core.List.{List}
 use native.Mathlib.Omega.{arith}
 use lib.ListN.{getD, length}
-use Rattle.refusal.specs.Laws.Bools.{clash, unlike}
-use Rattle.refusal.specs.Limits.{maxBanks}
-use Rattle.refusal.specs.declared.Refusal.{Refusal}
-use Rattle.refusal.specs.declared.Verdict.{Verdict}
-use Rattle.refusal.specs.declared.Verdict.the-variants.{Accepted, Refused}
+use Rattle.prelude.specs.Laws.Bools.{clash, unlike}
+use Rattle.prelude.specs.Limits.{maxBanks}
+use Rattle.prelude.specs.declared.Refusal.{Refusal}
+use Rattle.prelude.specs.declared.Verdict.{Verdict}
+use Rattle.prelude.specs.declared.Verdict.the-variants.{Accepted, Refused}
 use Rattle.bankdef.specs.Check.{checkOf}
 use Rattle.bankdef.specs.Theorems.Refused.{accepted}
 use Rattle.bankdef.specs.declared.Bankdefs.{Bankdefs}
-use Rattle.lists.specs.FaultExactly.{otherBank}
-use Rattle.lists.specs.Theorems.FaultExactly.{fault-exactly}
-use Rattle.lists.specs.Lists.{Lists, lists, listsOf, firstOf}
-use Rattle.lists.specs.Theorems.Sound.{accepted-lists, accepted-node}
+use Rattle.nodes.specs.FaultExactly.{otherBank}
+use Rattle.nodes.specs.Theorems.FaultExactly.{fault-exactly}
+use Rattle.nodes.specs.Lists.{Lists, lists, listsOf, firstOf}
+use Rattle.nodes.specs.Theorems.Sound.{accepted-lists, accepted-node}
 use Rattle.build_profile.specs.Kept.{Judged, keeps, breaks}
 use Rattle.build_profile.specs.Theorems.Kept.{judged}
 use Rattle.build_profile.specs.OneBit.{ExactlyOne}

@@ -11,9 +11,9 @@ use lib.Dec.{eqb}
 use lib.ListN.{getD, length, take, drop, set, replicate}
 use lib.Seq.{getD-take, getD-drop}
 use borrow.Author.Tests.{eqb-true, ne-eqb, not-true, not-false}
-use Rattle.refusal.specs.Laws.Bools.{either}
-use Rattle.refusal.specs.Pick.{pick}
-use Rattle.refusal.specs.Laws.Pick.{pick-false}
+use Rattle.prelude.specs.Laws.Bools.{either}
+use Rattle.prelude.specs.Pick.{pick}
+use Rattle.prelude.specs.Laws.Pick.{pick-false}
 use Rattle.bankdef.specs.declared.Bankdefs.{Bankdefs}
 use Rattle.build_profile.specs.Laws.RuleLaws.{KeptTo}
 use Rattle.build_profile.specs.Rules.{all, numberIn, aligned, nodeAligned, multiple, addrKept}

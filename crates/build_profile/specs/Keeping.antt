@@ -3,9 +3,9 @@ use Prim.Native.Nat.{ℕ, _%_}
 use mathlib.Core.Path.{_≡_}
 use mathlib.Core.Logic.{_⊎_}
 use lib.ListN.{getD}
-use Rattle.refusal.specs.declared.Opt.the-variants.{Some}
+use Rattle.prelude.specs.declared.Opt.the-variants.{Some}
 use Rattle.bankdef.specs.declared.Bankdefs.{Bankdefs}
-use Rattle.lists.specs.Lists.{Lists}
+use Rattle.nodes.specs.Lists.{Lists}
 use Rattle.resolver.specs.Once.{bankRecord}
 use Rattle.build_profile.specs.OneBit.{ExactlyOne}
 use Rattle.build_profile.specs.RuleLaws.{Every}

@@ -1,11 +1,11 @@
 -- "It says yes exactly when all of them hold"; otherwise it names the least rule that is broken, and the first bank or node that breaks it.
 use Prim.Native.Nat.{ℕ}
 use lib.ListN.{length}
-use Rattle.refusal.specs.declared.Refusal.the-variants.{OffProfile}
-use Rattle.refusal.specs.declared.Verdict.{Verdict}
-use Rattle.refusal.specs.declared.Verdict.the-variants.{Accepted, Refused}
+use Rattle.prelude.specs.declared.Refusal.the-variants.{OffProfile}
+use Rattle.prelude.specs.declared.Verdict.{Verdict}
+use Rattle.prelude.specs.declared.Verdict.the-variants.{Accepted, Refused}
 use Rattle.bankdef.specs.declared.Bankdefs.{Bankdefs}
-use Rattle.lists.specs.Lists.{Lists}
+use Rattle.nodes.specs.Lists.{Lists}
 use Rattle.build_profile.specs.Keeping.{LabelAligned, AlignKept, OffsetKept, SizeKept, UnitKept, AddrKept}
 use Rattle.build_profile.specs.OneBit.{ExactlyOne}
 use Rattle.build_profile.specs.RuleLaws.{Every, First}

@@ -1,10 +1,10 @@
 -- The profile call: "19 (new), after 4 and before the first pass"; yes, "then with each bank's pages".
 use Prim.Native.Nat.{ℕ}
-use Rattle.refusal.specs.declared.Verdict.{Verdict}
-use Rattle.refusal.specs.declared.Verdict.the-variants.{Accepted, Refused}
+use Rattle.prelude.specs.declared.Verdict.{Verdict}
+use Rattle.prelude.specs.declared.Verdict.the-variants.{Accepted, Refused}
 use Rattle.bankdef.specs.Check.{checkOf}
 use Rattle.bankdef.specs.declared.Bankdefs.{Bankdefs}
-use Rattle.lists.specs.Lists.{Lists, listsOf, firstOf}
+use Rattle.nodes.specs.Lists.{Lists, listsOf, firstOf}
 use Rattle.build_profile.specs.Pages.{nonePaged, pagesOf}
 use Rattle.build_profile.specs.Rules.{rulesOf}
 use Rattle.build_profile.specs.declared.Paged.{Paged}

@@ -3,16 +3,16 @@ use Prim.Native.Nat.{ℕ, _%_}
 use mathlib.Core.Bool.{Bool, true, false, not, _||_}
 use lib.Dec.{eqb, leb}
 use lib.ListN.{getD, length}
-use Rattle.refusal.specs.Pick.{pick}
-use Rattle.refusal.specs.declared.Opt.{Opt}
-use Rattle.refusal.specs.declared.Opt.the-variants.{None, Some}
-use Rattle.refusal.specs.declared.Refusal.the-variants.{OffProfile}
-use Rattle.refusal.specs.declared.Verdict.{Verdict}
-use Rattle.refusal.specs.declared.Verdict.the-variants.{Accepted, Refused}
+use Rattle.prelude.specs.Pick.{pick}
+use Rattle.prelude.specs.declared.Opt.{Opt}
+use Rattle.prelude.specs.declared.Opt.the-variants.{None, Some}
+use Rattle.prelude.specs.declared.Refusal.the-variants.{OffProfile}
+use Rattle.prelude.specs.declared.Verdict.{Verdict}
+use Rattle.prelude.specs.declared.Verdict.the-variants.{Accepted, Refused}
 use Rattle.bankdef.specs.declared.Bankdefs.{Bankdefs}
-use Rattle.lists.specs.FaultExactly.{shownIn}
-use Rattle.lists.specs.Kinds.{isAlign, isAddr}
-use Rattle.lists.specs.Lists.{Lists, firstOf}
+use Rattle.nodes.specs.FaultExactly.{shownIn}
+use Rattle.nodes.specs.Kinds.{isAlign, isAddr}
+use Rattle.nodes.specs.Lists.{Lists, firstOf}
 use Rattle.resolver.specs.Once.{bankRecord}
 use Rattle.resolver.specs.Passes.{first}
 use Rattle.build_profile.specs.OneBit.{oneBit}

@@ -2,8 +2,8 @@
 use Prim.Native.Nat.{ℕ, zero, suc}
 use mathlib.Core.List.{List}
 use lib.ListN.{getD}
-use Rattle.refusal.specs.Pick.{pick}
-use Rattle.lists.specs.Kinds.{isSwitch}
+use Rattle.prelude.specs.Pick.{pick}
+use Rattle.nodes.specs.Kinds.{isSwitch}
 
 -- "The walk begins in bank 0." "1 bank switch", "The operand is a bank for 1": the bank in force before node i.
 unfoldable pub bankBefore : List ℕ → List ℕ → ℕ → ℕ

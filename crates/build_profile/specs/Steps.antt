@@ -5,11 +5,11 @@ use mathlib.Core.Bool.{Bool}
 use mathlib.Core.List.{List, []}
 use lib.Dec.{eqb}
 use lib.ListN.{getD, length}
-use Rattle.refusal.specs.Limits.{maxBanks}
-use Rattle.refusal.specs.Pick.{pick}
+use Rattle.prelude.specs.Limits.{maxBanks}
+use Rattle.prelude.specs.Pick.{pick}
 use Rattle.bankdef.specs.declared.Bankdef.{Bankdef}
 use Rattle.bankdef.specs.declared.Bankdefs.{Bankdefs}
-use Rattle.lists.specs.Lists.{Lists, lists}
+use Rattle.nodes.specs.Lists.{Lists, lists}
 use Rattle.build_profile.specs.Rules.{bankAligned, onPage, wholePages, unitKept}
 
 -- a bank keeps a rule, told by the rule's number

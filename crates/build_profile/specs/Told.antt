@@ -2,15 +2,15 @@
 use Prim.Native.Nat.{ℕ}
 use mathlib.Core.Path.{_≡_}
 use mathlib.Core.List.{List}
-use Rattle.refusal.specs.Told.{Told, gives, refuses, toldRefusal}
-use Rattle.refusal.specs.declared.Place.the-variants.{Two}
-use Rattle.refusal.specs.declared.Refusal.{Refusal}
-use Rattle.refusal.specs.declared.Verdict.{Verdict}
-use Rattle.refusal.specs.declared.Verdict.the-variants.{Accepted, Refused}
+use Rattle.prelude.specs.Told.{Told, gives, refuses, toldRefusal}
+use Rattle.prelude.specs.declared.Place.the-variants.{Two}
+use Rattle.prelude.specs.declared.Refusal.{Refusal}
+use Rattle.prelude.specs.declared.Verdict.{Verdict}
+use Rattle.prelude.specs.declared.Verdict.the-variants.{Accepted, Refused}
 use Rattle.bankdef.specs.Check.{checkOf}
 use Rattle.bankdef.specs.declared.Bankdefs.{Bankdefs}
 use Rattle.resolver.specs.Layout.{Checked}
-use Rattle.lists.specs.Lists.{Lists, listsOf}
+use Rattle.nodes.specs.Lists.{Lists, listsOf}
 use Rattle.build_profile.specs.Kept.{InProfile, Breaks}
 use Rattle.build_profile.specs.Pages.{pagesOf}
 use Rattle.build_profile.specs.Profile.{profileOf}

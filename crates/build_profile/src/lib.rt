@@ -3,13 +3,13 @@ mod rules;
 
 use bankdef::Bankdef;
 use bankdef::Bankdefs;
-use refusal::Opt;
-use refusal::Verdict;
+use prelude::Opt;
+use prelude::Verdict;
 use resolver::Choices;
 ghost use mathlib.Core.Path.{_≡_};
 ghost use Prim.Native.Nat.{_≤_, _<_};
-ghost use Rattle.refusal.specs.Limits.{maxBanks};
-ghost use Rattle.lists.specs.Lists.{lists};
+ghost use Rattle.prelude.specs.Limits.{maxBanks};
+ghost use Rattle.nodes.specs.Lists.{lists};
 ghost use Rattle.build_profile.specs.Pages.{pagesIn, pagesOf};
 ghost use Rattle.build_profile.specs.Told.{Answers};
 

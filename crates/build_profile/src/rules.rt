@@ -1,20 +1,20 @@
 // The six rules, over the banks and over the nodes in every row.
 use bankdef::Bankdef;
 use bankdef::Bankdefs;
-use refusal::ADDR;
-use refusal::ALIGN;
-use refusal::Opt;
-use refusal::Refusal;
-use refusal::SWITCH;
-use refusal::Verdict;
+use prelude::ADDR;
+use prelude::ALIGN;
+use prelude::Opt;
+use prelude::Refusal;
+use prelude::SWITCH;
+use prelude::Verdict;
 ghost use mathlib.Core.Path.{_≡_};
 ghost use mathlib.Core.List.{[]};
 ghost use Prim.Native.Nat.{_+_, _*_, _≤_, _<_};
 ghost use lib.Dec.{eqb};
 ghost use lib.ListN.{length, getD};
-ghost use Rattle.refusal.specs.Limits.{maxBanks};
-ghost use Rattle.refusal.specs.Pick.{pick};
-ghost use Rattle.lists.specs.Lists.{lists, firstOf};
+ghost use Rattle.prelude.specs.Limits.{maxBanks};
+ghost use Rattle.prelude.specs.Pick.{pick};
+ghost use Rattle.nodes.specs.Lists.{lists, firstOf};
 ghost use Rattle.resolver.specs.Once.{bankRecord};
 ghost use Rattle.build_profile.specs.OneBit.{oneBit};
 ghost use Rattle.build_profile.specs.Profile.{verdictOf};
@@ -292,7 +292,7 @@ pub fn judge(
         return Verdict::Refused(why);
     }
     let len = banks.len;
-    let listed = lists::check_lists(len, kinds, operands, numbers, states, rows, values, fill);
+    let listed = nodes::check_lists(len, kinds, operands, numbers, states, rows, values, fill);
     if let Verdict::Refused(why) = listed {
         return Verdict::Refused(why);
     }

@@ -9,10 +9,10 @@ use native.Mathlib.Omega.{arith}
 use borrow.Author.Tests.{ltb-true, lt-ltb, eqb-true}
 use lib.Dec.{ltb, eqb}
 use lib.ListN.{length, getD, replicate, length-replicate, List·getD-eq-default}
-use Rattle.refusal.specs.Laws.Bools.{either, clash, both, unlike, or-right}
-use Rattle.refusal.specs.Pick.{pick}
-use Rattle.refusal.specs.declared.Opt.{Opt}
-use Rattle.refusal.specs.declared.Opt.the-variants.{None, Some}
+use Rattle.prelude.specs.Laws.Bools.{either, clash, both, unlike, or-right}
+use Rattle.prelude.specs.Pick.{pick}
+use Rattle.prelude.specs.declared.Opt.{Opt}
+use Rattle.prelude.specs.declared.Opt.the-variants.{None, Some}
 use Rattle.bankdef.specs.Check.{noBank}
 use Rattle.bankdef.specs.FillBits.{fillsAt, onesAt, fillBitAt, FillsBit, One}
 use Rattle.bankdef.specs.Theorems.FillBits.{fills-exactly, one-exactly}
@@ -26,7 +26,7 @@ use Rattle.bitvec.specs.Laws.Numeral.{pick-lt}
 use Rattle.bitvec.specs.Ones.{withOnes}
 use Rattle.bitvec.specs.Theorems.Ones.{only-ones}
 use Rattle.build_write.specs.Blank.{blankBit, blankOf}
-use Rattle.build_sights.specs.Laws.ItemLaws.{zeros-bit, zeros-bytes}
+use Rattle.build_visits.specs.Laws.ItemLaws.{zeros-bit, zeros-bytes}
 use Rattle.build_write.specs.Steps.{OnesOf}
 
 -- ---- a bank's range of ones

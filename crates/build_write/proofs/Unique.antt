@@ -5,8 +5,8 @@ use lib.IntN.{ℤ}
 use borrow.Fn.Kinds.{endedOf}
 use contract.Lifetimes.{Lfts}
 use denote.Triple.Clauses.{AtExit}
-use Rattle.refusal.specs.Laws.Pick.{determined, paired}
-use Rattle.refusal.specs.Laws.Outcome.{OneView}
+use Rattle.prelude.specs.Laws.Pick.{determined, paired}
+use Rattle.prelude.specs.Laws.Outcome.{OneView}
 use Rattle.build_write.proofs.write_row.Kinds as write-row-kinds
 use Rattle.build_write.proofs.write_row.Reads as write-row-reads
 

@@ -7,8 +7,8 @@ use native.Mathlib.Numerals.{add-one}
 use native.Mathlib.Omega.{arith}
 use lib.ListN.{length, drop, set, getD, length-append, length-drop, length-map}
 use lib.Seq.{drop-cons, set-append-seam}
-use Rattle.refusal.specs.Pick.{pick}
-use Rattle.build_sights.specs.Spans.{over}
+use Rattle.prelude.specs.Pick.{pick}
+use Rattle.build_visits.specs.Spans.{over}
 
 pub length-snoc {ℓ} : {A : Type ℓ} (l : List A) (x : A) → length (l ++ x ∷ []) ≡ length l + 1
 length-snoc l x = length-append l (x ∷ [])

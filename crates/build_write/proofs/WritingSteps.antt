@@ -9,27 +9,27 @@ use native.Mathlib.Omega.{arith}
 use borrow.Author.Tests.{le-leb}
 use lib.IntN.{ℤ}
 use lib.ListN.{length, set, length-map}
-use Rattle.refusal.specs.Pick.{pick}
-use Rattle.refusal.specs.Laws.Pick.{pick-true}
-use Rattle.refusal.specs.declared.Offset.{Offset}
-use Rattle.refusal.specs.declared.Offset.the-variants.{None as Nowhere, At as Out}
+use Rattle.prelude.specs.Pick.{pick}
+use Rattle.prelude.specs.Laws.Pick.{pick-true}
+use Rattle.prelude.specs.declared.Offset.{Offset}
+use Rattle.prelude.specs.declared.Offset.the-variants.{None as Nowhere, At as Out}
 use Rattle.bitvec.specs.Written.{written, isWritten as passesNoEnd}
 use Rattle.blocks.specs.Offsets.{wordOf}
 use Rattle.iter.specs.Step.{startOf}
-use Rattle.lists.specs.declared.Node.{Node}
+use Rattle.nodes.specs.declared.Node.{Node}
 use Rattle.iter.specs.declared.Walk.{Walk}
-use Rattle.lists.specs.Lists.{Row}
+use Rattle.nodes.specs.Lists.{Row}
 use Rattle.resolver.specs.Once.{Program, node}
 use Rattle.resolver.specs.Laws.Walking.{walks-start}
 use Rattle.resolver.specs.Switches.{Switches}
 use Rattle.resolver.specs.Walking.{Walks}
-use Rattle.build_sights.specs.declared.Visit.{Visit}
-use Rattle.build_sights.specs.Visits.{visitAt, visits}
-use Rattle.build_sights.specs.Laws.VisitLaws.{visit-member, each-member}
-use Rattle.build_sights.specs.Items.{Item, isWritten, standing, itemAt, itemOf, imageOf}
-use Rattle.build_sights.specs.Laws.ItemLaws.{image-length}
-use Rattle.build_sights.specs.Spans.{Span, isSpan, spanAt, over}
-use Rattle.build_sights.specs.Laws.Upto.{itemsTo, spansTo, imageTo, spans-next, image-next as image-step, items-none, spans-none, spans-grow}
+use Rattle.build_visits.specs.declared.Visit.{Visit}
+use Rattle.build_visits.specs.Visits.{visitAt, visits}
+use Rattle.build_visits.specs.Laws.VisitLaws.{visit-member, each-member}
+use Rattle.build_visits.specs.Items.{Item, isWritten, standing, itemAt, itemOf, imageOf}
+use Rattle.build_visits.specs.Laws.ItemLaws.{image-length}
+use Rattle.build_visits.specs.Spans.{Span, isSpan, spanAt, over}
+use Rattle.build_visits.specs.Laws.Upto.{itemsTo, spansTo, imageTo, spans-next, image-next as image-step, items-none, spans-none, spans-grow}
 use Rattle.build_write.specs.Writes.{Fit, HasRoom}
 use Rattle.build_write.proofs.WritingOver.{length-snoc, over-length, over-more}
 

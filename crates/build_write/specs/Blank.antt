@@ -3,7 +3,7 @@
 use mathlib.Core.List.{List}
 use Prim.Native.Nat.{ℕ}
 use lib.Dec.{ltb}
-use Rattle.refusal.specs.Pick.{pick}
+use Rattle.prelude.specs.Pick.{pick}
 use Rattle.bankdef.specs.FillBits.{fillBitAt}
 use Rattle.bankdef.specs.declared.Bankdef.{Bankdef}
 use Rattle.bitvec.specs.Bits.{ofBits}

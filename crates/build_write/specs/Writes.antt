@@ -2,9 +2,9 @@
 use mathlib.Core.List.{List, List·Memᴰ}
 use Prim.Native.Nat.{ℕ, _+_, _*_, _≤_}
 use lib.ListN.{length}
-use Rattle.build_sights.specs.Items.{Item, endOf, itemsOf}
-use Rattle.build_sights.specs.Spans.{spansOf}
-use Rattle.build_sights.specs.declared.Visit.{Visit}
+use Rattle.build_visits.specs.Items.{Item, endOf, itemsOf}
+use Rattle.build_visits.specs.Spans.{spansOf}
+use Rattle.build_visits.specs.declared.Visit.{Visit}
 
 -- items that come from within `values` value bytes, and whose bits lie within an image of `bytes` bytes
 abbrev pub Fit : ℕ → ℕ → List Item → Type 0

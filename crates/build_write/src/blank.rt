@@ -1,7 +1,7 @@
 // The image before any item is written.
 use bankdef::Bankdef;
 use bankdef::Bankdefs;
-use refusal::Opt;
+use prelude::Opt;
 ghost use mathlib.Core.Path.{_≡_};
 ghost use lib.ListN.{length};
 ghost use Rattle.bankdef.specs.Check.{banksOf};

@@ -1,12 +1,12 @@
 -- A part of an image, the image that a range comes from, where a file's bytes stand, the line at which it is at fault, and why, in numbers.
 use Prim.Native.Nat.{ℕ, _/_}
-use Rattle.refusal.specs.Refusals.{numberOf}
-use Rattle.refusal.specs.declared.Verdict.{Verdict}
-use Rattle.refusal.specs.declared.Verdict.the-variants.{Accepted, Refused as TurnedAway}
+use Rattle.prelude.specs.Refusals.{numberOf}
+use Rattle.prelude.specs.declared.Verdict.{Verdict}
+use Rattle.prelude.specs.declared.Verdict.the-variants.{Accepted, Refused as TurnedAway}
 use Rattle.overlay.specs.declared.Source.{Source}
 use Rattle.overlay.specs.declared.Source.the-variants.{Overlay, Released, Refused}
-use Rattle.record_fault.specs.declared.Fault.{Fault}
-use Rattle.record_fault.specs.declared.Fault.the-variants.{Good, At}
+use Rattle.record_scan.specs.declared.Fault.{Fault}
+use Rattle.record_scan.specs.declared.Fault.the-variants.{Good, At}
 use Rattle.record_extent.specs.declared.Extent.{Extent}
 use Rattle.record_extent.specs.declared.Extent.the-variants.{Spans, Refused as Untold}
 use Rattle.record_reason.specs.declared.Why.{Why}

@@ -1,6 +1,6 @@
 -- The answer to an offer, and to a list of offers, in numbers.
 use Prim.Native.Nat.{ℕ}
-use Rattle.refusal.specs.Told.{Told, gives, refuses, Nothing}
+use Rattle.prelude.specs.Told.{Told, gives, refuses, Nothing}
 use Rattle.c_answers.specs.Told.{firstOf, secondOf}
 use Rattle.c_answers.specs.declared.DkOffer.{DkOffer}
 use Rattle.c_answers.specs.declared.DkOffered.{DkOffered}

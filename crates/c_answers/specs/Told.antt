@@ -2,13 +2,13 @@
 use mathlib.Core.List.{List}
 use Prim.Native.Nat.{ℕ}
 use lib.ListN.{replicate}
-use Rattle.refusal.specs.Limits.{maxBanks}
-use Rattle.refusal.specs.Refusals.{numberOf, placeOf}
-use Rattle.refusal.specs.declared.Refusal.{Refusal}
-use Rattle.refusal.specs.declared.Place.{Place}
-use Rattle.refusal.specs.declared.Place.the-variants.{One, Two}
-use Rattle.refusal.specs.declared.Verdict.{Verdict}
-use Rattle.refusal.specs.declared.Verdict.the-variants.{Accepted, Refused as TurnedAway}
+use Rattle.prelude.specs.Limits.{maxBanks}
+use Rattle.prelude.specs.Refusals.{numberOf, placeOf}
+use Rattle.prelude.specs.declared.Refusal.{Refusal}
+use Rattle.prelude.specs.declared.Place.{Place}
+use Rattle.prelude.specs.declared.Place.the-variants.{One, Two}
+use Rattle.prelude.specs.declared.Verdict.{Verdict}
+use Rattle.prelude.specs.declared.Verdict.the-variants.{Accepted, Refused as TurnedAway}
 use Rattle.iter.specs.Step.{noLost}
 use Rattle.iter.specs.declared.Lost.{Lost}
 use Rattle.output.specs.declared.Build.{Build}

@@ -5,8 +5,8 @@ use bitvec::Hex;
 use blocks::Blocks;
 use form_convert::Conversion;
 use overlay::Listed;
+use prelude::Refusal;
 use record_write::Written;
-use refusal::Refusal;
 ghost use mathlib.Core.Path.{_≡_};
 ghost use Rattle.c_answers.specs.Told.{counted, refusedCount};
 ghost use Rattle.c_answers.specs.Counts.{blocksCount, hexCount, writtenCount, conversionCount, listedCount};
@@ -16,8 +16,8 @@ pub fn tell_refusal(why: Refusal) -> DkCount
     ensures { λ r. ⌜ r ≡ refusedCount why ⌝ }
 {
     DkCount {
-        refusal: refusal::number(why),
-        place: first_of(refusal::place_of(why)),
+        refusal: prelude::number(why),
+        place: first_of(prelude::place_of(why)),
         count: 0,
     }
 }

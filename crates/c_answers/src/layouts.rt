@@ -7,7 +7,7 @@ use build_profile::Paged;
 use iter::Lost;
 use output::Build;
 use output::Output;
-use refusal::Verdict;
+use prelude::Verdict;
 ghost use mathlib.Core.Path.{_≡_};
 ghost use Rattle.c_answers.specs.Told.{layoutTold, profileTold};
 
@@ -30,10 +30,10 @@ pub fn tell_layout(output: Output) -> DkLayout
             padding,
         },
         Build::Refused(why) => {
-            let place = refusal::place_of(why);
+            let place = prelude::place_of(why);
             let none = Lost { bits: 0, units: 0 };
             DkLayout {
-                refusal: refusal::number(why),
+                refusal: prelude::number(why),
                 place: first_of(place),
                 second: second_of(place),
                 passes,
@@ -59,9 +59,9 @@ pub fn tell_paged(paged: Paged) -> DkProfile
             pages,
         },
         Verdict::Refused(why) => {
-            let place = refusal::place_of(why);
+            let place = prelude::place_of(why);
             DkProfile {
-                refusal: refusal::number(why),
+                refusal: prelude::number(why),
                 place: first_of(place),
                 second: second_of(place),
                 pages: [0; 16],

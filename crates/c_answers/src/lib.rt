@@ -7,7 +7,7 @@ mod offers;
 mod parts;
 
 use iter::Lost;
-use refusal::Place;
+use prelude::Place;
 ghost use mathlib.Core.Path.{_≡_};
 ghost use Rattle.c_answers.specs.Told.{firstOf, secondOf};
 pub use counts::tell_blocks;

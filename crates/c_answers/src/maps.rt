@@ -5,8 +5,8 @@ use crate::second_of;
 use build_map::Fault;
 use build_map::Map;
 use iter::Lost;
-use refusal::Refusal;
-use refusal::Verdict;
+use prelude::Refusal;
+use prelude::Verdict;
 ghost use mathlib.Core.Path.{_≡_};
 ghost use Rattle.c_answers.specs.Maps.{refusedBelow, stoppedFrom, nodeTold, refusedMap, mapTold};
 
@@ -36,8 +36,8 @@ fn node_of(fault: Fault) -> u64
 fn tell_refused(why: Refusal, node: u64, passes: u64, nodes: u64, padding: [Lost; 16]) -> DkMap
     ensures { λ r. ⌜ r ≡ refusedMap why node passes nodes padding ⌝ }
 {
-    let number = refusal::number(why);
-    let place = refusal::place_of(why);
+    let number = prelude::number(why);
+    let place = prelude::place_of(why);
     DkMap {
         refusal: below(number),
         stopped: from(number),

@@ -1,10 +1,10 @@
 // The answer to an offer to the store, and to a list of them.
 use crate::DkOffer;
 use crate::DkOffered;
-use refusal::Place;
-use refusal::Verdict;
+use prelude::Place;
+use prelude::Verdict;
 ghost use mathlib.Core.Path.{_≡_};
-ghost use Rattle.refusal.specs.Told.{refuses, toldVerdict};
+ghost use Rattle.prelude.specs.Told.{refuses, toldVerdict};
 ghost use Rattle.c_answers.specs.Stores.{inFigures, numbered};
 
 // A refusal's number and place, with the counts.
@@ -42,7 +42,7 @@ pub fn tell_offer(verdict: Verdict, count: u64, marks: u64) -> DkOffer
             marks,
         },
         Verdict::Refused(why) => {
-            tell_place(refusal::number(why), refusal::place_of(why), count, marks)
+            tell_place(prelude::number(why), prelude::place_of(why), count, marks)
         }
     }
 }

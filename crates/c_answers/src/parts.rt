@@ -5,10 +5,10 @@ use crate::DkOverlay;
 use crate::DkPart;
 use crate::DkReason;
 use overlay::Source;
+use prelude::Verdict;
 use record_extent::Extent;
-use record_fault::Fault;
 use record_reason::Why;
-use refusal::Verdict;
+use record_scan::Fault;
 ghost use mathlib.Core.Path.{_≡_};
 ghost use Rattle.c_answers.specs.Parts.{partBy, overlayBy, extentTold, lineTold, reasonTold};
 
@@ -23,7 +23,7 @@ pub fn tell_part(verdict: Verdict, offset: u64, size: u64) -> DkPart
             length: size / 8,
         },
         Verdict::Refused(why) => DkPart {
-            refusal: refusal::number(why),
+            refusal: prelude::number(why),
             start: 0,
             length: 0,
         },
@@ -48,7 +48,7 @@ pub fn tell_source(source: Source, first: u64, count: u64) -> DkOverlay
             length: count,
         },
         Source::Refused(why) => DkOverlay {
-            refusal: refusal::number(why),
+            refusal: prelude::number(why),
             image: 0,
             start: 0,
             length: 0,
@@ -66,7 +66,7 @@ pub fn tell_extent(extent: Extent) -> DkExtent
             end,
         },
         Extent::Refused(why) => DkExtent {
-            refusal: refusal::number(why),
+            refusal: prelude::number(why),
             lowest: 0,
             end: 0,
         },

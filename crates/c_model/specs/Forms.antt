@@ -2,7 +2,7 @@
 use mathlib.Core.Path.{_≡_}
 use mathlib.Core.List.{List}
 use Prim.Native.Nat.{ℕ}
-use Rattle.refusal.specs.declared.Opt.{Opt}
+use Rattle.prelude.specs.declared.Opt.{Opt}
 use Rattle.output.specs.Output.{Lent, roomOf}
 use Rattle.form_build.specs.Filed.{fileOutput, FileBuilt}
 use Rattle.c_answers.specs.Told.{layoutTold}

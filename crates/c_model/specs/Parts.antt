@@ -2,8 +2,8 @@
 use mathlib.Core.Path.{_≡_}
 use mathlib.Core.List.{List}
 use Prim.Native.Nat.{ℕ}
-use Rattle.refusal.specs.Pick.{pick}
-use Rattle.refusal.specs.declared.Refusal.the-variants.{Malformed}
+use Rattle.prelude.specs.Pick.{pick}
+use Rattle.prelude.specs.declared.Refusal.the-variants.{Malformed}
 use Rattle.bitvec.specs.HexDigits.{hexAnswer, hexAfter}
 use Rattle.bitvec.specs.Part.{partVerdict}
 use Rattle.blocks.specs.Spans.{spansOf, acceptable}

@@ -1,9 +1,9 @@
 -- The profile of a device with pages, and a build in it, as a caller in another language is told of them.
 use mathlib.Core.Path.{_≡_}
 use Prim.Native.Nat.{ℕ}
-use Rattle.refusal.specs.declared.Opt.the-variants.{Some}
+use Rattle.prelude.specs.declared.Opt.the-variants.{Some}
 use Rattle.bankdef.specs.declared.Bankdefs.{Bankdefs}
-use Rattle.lists.specs.Lists.{Lists}
+use Rattle.nodes.specs.Lists.{Lists}
 use Rattle.build_profile.specs.Profile.{profileOf}
 use Rattle.output.specs.Output.{Input, Lent, roomOf}
 use Rattle.form_build.specs.Paged.{outputIn, BuiltIn}

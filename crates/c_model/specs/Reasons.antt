@@ -3,8 +3,8 @@ use mathlib.Core.Path.{_≡_}
 use mathlib.Core.List.{List}
 use Prim.Native.Nat.{ℕ}
 use lib.Dec.{eqb}
-use Rattle.refusal.specs.Pick.{pick}
-use Rattle.record_fault.specs.Reading.{readText}
+use Rattle.prelude.specs.Pick.{pick}
+use Rattle.record_scan.specs.Reading.{readText}
 use Rattle.record_reason.specs.Reasons.{whyOf}
 use Rattle.c_answers.specs.Parts.{reasonTold}
 use Rattle.c_answers.specs.declared.DkReason.{DkReason}

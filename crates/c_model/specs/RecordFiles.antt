@@ -3,10 +3,10 @@ use mathlib.Core.Path.{_≡_}
 use mathlib.Core.List.{List}
 use Prim.Native.Nat.{ℕ}
 use lib.Dec.{ltb}
-use Rattle.refusal.specs.Pick.{pick}
+use Rattle.prelude.specs.Pick.{pick}
 use Rattle.record_write.specs.declared.Written.{Written}
-use Rattle.record_fault.specs.Reading.{Read, faulty, readText}
-use Rattle.record_fault.specs.Outcome.{faultOf}
+use Rattle.record_scan.specs.Reading.{Read, faulty, readText}
+use Rattle.record_scan.specs.Outcome.{faultOf}
 use Rattle.record_extent.specs.Extent.{extentOf}
 use Rattle.record_read.specs.Outcome.{Lent, answerOf, lentAfter}
 use Rattle.c_answers.specs.Counts.{blocksCount, writtenCount}

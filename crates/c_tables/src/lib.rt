@@ -3,7 +3,7 @@ use bankdef::Bankdef;
 use bankdef::Bankdefs;
 use form_fields::is_set;
 use form_fields::option;
-use refusal::Opt;
+use prelude::Opt;
 use resolver::Choices;
 ghost use mathlib.Core.Path.{_≡_};
 ghost use mathlib.Core.List.{_++_};

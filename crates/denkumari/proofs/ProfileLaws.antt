@@ -1,9 +1,9 @@
 -- What the profile says of a table, and a build in it, are told as they are.
 use mathlib.Core.Path.{_≡_, ap, subst, _∙_}
 use Prim.Native.Nat.{ℕ}
-use Rattle.refusal.specs.declared.Opt.the-variants.{Some}
+use Rattle.prelude.specs.declared.Opt.the-variants.{Some}
 use Rattle.bankdef.specs.declared.Bankdefs.{Bankdefs}
-use Rattle.lists.specs.Lists.{Lists}
+use Rattle.nodes.specs.Lists.{Lists}
 use Rattle.resolver.specs.declared.Choices.{Choices}
 use Rattle.build_profile.specs.Profile.{profileOf}
 use Rattle.build_profile.specs.Told.{Answers}

@@ -2,8 +2,8 @@
 use mathlib.Core.Path.{_≡_, refl, sym, ap, ap₂, _∙_}
 use mathlib.Core.List.{List}
 use Prim.Native.Nat.{ℕ}
-use Rattle.refusal.specs.Told.{Told, gives, refuses, Nothing, toldVerdict}
-use Rattle.refusal.specs.declared.Verdict.{Verdict}
+use Rattle.prelude.specs.Told.{Told, gives, refuses, Nothing, toldVerdict}
+use Rattle.prelude.specs.declared.Verdict.{Verdict}
 use Rattle.overlap_checker.specs.declared.Entry.{Entry}
 use Rattle.overlap_checker.specs.State.{after}
 use Rattle.overlap_checker.specs.Lent.{Lent, lent, stateIn, laidInto, leaving, callFigures, Calls}

@@ -3,7 +3,7 @@
 use mathlib.Core.Path.{ap}
 use mathlib.Core.List.{List}
 use Prim.Native.Nat.{ℕ}
-use Rattle.refusal.specs.Laws.Outcome.{OneOutcome, OneView}
+use Rattle.prelude.specs.Laws.Outcome.{OneOutcome, OneView}
 use Rattle.c_answers.specs.declared.DkCount.{DkCount}
 use Rattle.c_answers.specs.declared.DkExtent.{DkExtent}
 use Rattle.c_answers.specs.declared.DkFault.{DkFault}

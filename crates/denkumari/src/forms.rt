@@ -1,7 +1,7 @@
 // A layout file, laid out in one call.
 use c_answers::DkLayout;
 use c_answers::tell_layout;
-use refusal::Opt;
+use prelude::Opt;
 ghost use Rattle.says.specs.Form.{FormSays};
 ghost use Rattle.says.specs.FormPaged.{FormPagedSays};
 

@@ -5,7 +5,7 @@ use c_answers::tell_layout;
 use c_answers::tell_paged;
 use c_tables::choose;
 use c_tables::make_banks;
-use refusal::Opt;
+use prelude::Opt;
 ghost use Rattle.says.specs.Profile.{ProfileSays};
 ghost use Rattle.says.specs.Paged.{PagedSays};
 

@@ -7,9 +7,9 @@ use c_answers::tell_blocks;
 use c_answers::tell_extent;
 use c_answers::tell_fault;
 use c_answers::tell_written;
+use prelude::Refusal;
 use record_extent::Extent;
-use record_fault::Fault;
-use refusal::Refusal;
+use record_scan::Fault;
 ghost use Rattle.says.specs.Write.{HexSays, SrecSays};
 ghost use Rattle.says.specs.Extent.{ExtentSays};
 ghost use Rattle.says.specs.Read.{ReadSays, FaultSays};
@@ -93,5 +93,5 @@ pub extern "C" fn dk_record_fault(format: u8, text: &[u8], load: u32, scratch: &
     if format >= FORMATS {
         return tell_fault(Fault::At(0));
     }
-    tell_fault(record_fault::line_at_fault(format, text, load, scratch))
+    tell_fault(record_scan::line_at_fault(format, text, load, scratch))
 }

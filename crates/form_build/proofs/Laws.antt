@@ -3,7 +3,7 @@ use mathlib.Core.Path.{_≡_, refl, sym, ap, subst, _∙_}
 use mathlib.Core.List.{List}
 use Prim.Native.Nat.{ℕ, _*_}
 use lib.ListN.{take}
-use Rattle.refusal.specs.declared.Refusal.{Refusal}
+use Rattle.prelude.specs.declared.Refusal.{Refusal}
 use Rattle.bankdef.specs.declared.Bankdefs.{Bankdefs}
 use Rattle.form_fields.specs.declared.Shape.{Shape}
 use Rattle.form_fields.specs.declared.Form.the-variants.{Sound, Broken}
@@ -11,9 +11,9 @@ use Rattle.form_fields.specs.Shape.{formOf}
 use Rattle.form_fields.specs.Banks.{tableOf}
 use Rattle.form_fields.specs.Lists.{kindsOf, operandsOf, numbersOf, statesOf, valuesBy}
 use Rattle.form_fields.specs.Theorems.Filled.{places}
-use Rattle.lists.specs.Lists.{lists}
+use Rattle.nodes.specs.Lists.{lists}
 use Rattle.resolver.specs.declared.Choices.{Choices}
-use Rattle.refusal.specs.declared.Opt.{Opt}
+use Rattle.prelude.specs.declared.Opt.{Opt}
 use Rattle.output.specs.Output.{input, Lent, roomOf, refusedAfter}
 use Rattle.output.specs.declared.Output.{Output}
 use Rattle.form_build.specs.Paged.{BuiltIn}

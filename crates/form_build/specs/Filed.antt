@@ -7,16 +7,16 @@ use lib.ListN.{length, take}
 use Rattle.form_fields.specs.declared.Shape.{Shape}
 use Rattle.form_fields.specs.declared.Form.{Form}
 use Rattle.form_fields.specs.declared.Form.the-variants.{Sound, Broken}
-use Rattle.refusal.specs.declared.Opt.{Opt}
+use Rattle.prelude.specs.declared.Opt.{Opt}
 use Rattle.form_fields.specs.Shape.{formOf, rowCount}
 use Rattle.form_fields.specs.Banks.{tableOf}
 use Rattle.form_fields.specs.Lists.{kindsOf, operandsOf, numbersOf, statesOf, valuesBy}
-use Rattle.lists.specs.Lists.{Lists, lists}
+use Rattle.nodes.specs.Lists.{Lists, lists}
 use Rattle.resolver.specs.declared.Choices.{Choices}
 use Rattle.resolver.specs.Passes.{program, rowOfPass}
-use Rattle.build_sights.specs.Visits.{visits}
+use Rattle.build_visits.specs.Visits.{visits}
 use Rattle.output.specs.Output.{input, Lent, Room, roomOf, refusedAfter, leftBy}
-use Rattle.build_sights.specs.declared.Visit.{Visit}
+use Rattle.build_visits.specs.declared.Visit.{Visit}
 use Rattle.output.specs.declared.Output.{Output}
 use Rattle.form_build.specs.Paged.{outputIn}
 

@@ -1,9 +1,9 @@
 -- A build, in the profile of a device with pages where a page size is given.
 use mathlib.Core.Path.{_≡_}
-use Rattle.refusal.specs.declared.Opt.{Opt}
-use Rattle.refusal.specs.declared.Opt.the-variants.{None, Some}
-use Rattle.refusal.specs.declared.Verdict.{Verdict}
-use Rattle.refusal.specs.declared.Verdict.the-variants.{Accepted, Refused}
+use Rattle.prelude.specs.declared.Opt.{Opt}
+use Rattle.prelude.specs.declared.Opt.the-variants.{None, Some}
+use Rattle.prelude.specs.declared.Verdict.{Verdict}
+use Rattle.prelude.specs.declared.Verdict.the-variants.{Accepted, Refused}
 use Rattle.output.specs.Output.{Input, Lent, Room, roomOf, buildOf, refusedAfter, leftBy, visitsOf}
 use Rattle.output.specs.declared.Output.{Output}
 use Rattle.build_paged.specs.InProfile.{saidOf}

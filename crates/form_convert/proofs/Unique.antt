@@ -2,8 +2,8 @@
 use Prim.Native.Nat.{ℕ}
 use mathlib.Core.List.{List}
 use mathlib.Core.Path.{_≡_, sym, ap, _∙_}
-use Rattle.refusal.specs.Laws.Outcome.{OneView}
-use Rattle.refusal.specs.Laws.Pick.{determined, paired}
+use Rattle.prelude.specs.Laws.Outcome.{OneView}
+use Rattle.prelude.specs.Laws.Pick.{determined, paired}
 use Rattle.form_fields.specs.Kind.{form1, form2}
 use Rattle.form_fields.specs.Contents.{written}
 use Rattle.form_fields.specs.Whole.{contentsIn}

@@ -9,10 +9,10 @@ use lib.IntN.{ℤ}
 use lib.ListN.{replicate}
 use mir.Syntax.{w64}
 use mir.Val.{toZ}
-use Rattle.refusal.specs.Limits.{maxBanks}
-use Rattle.refusal.specs.Pick.{pick}
-use Rattle.refusal.specs.declared.Opt.{Opt}
-use Rattle.refusal.specs.declared.Opt.the-variants.{None, Some}
+use Rattle.prelude.specs.Limits.{maxBanks}
+use Rattle.prelude.specs.Pick.{pick}
+use Rattle.prelude.specs.declared.Opt.{Opt}
+use Rattle.prelude.specs.declared.Opt.the-variants.{None, Some}
 use Rattle.bankdef.specs.Check.{noBank}
 use Rattle.bankdef.specs.declared.Bankdef.{Bankdef}
 use Rattle.bankdef.specs.declared.Bankdefs.{Bankdefs}

@@ -4,7 +4,7 @@ use mathlib.Core.List.{List}
 use Prim.Native.Nat.{ℕ, zero, suc, _+_}
 use lib.Dec.{leb, eqb}
 use lib.ListN.{length}
-use Rattle.refusal.specs.Pick.{pick}
+use Rattle.prelude.specs.Pick.{pick}
 use Rattle.form_fields.specs.Words.{byte, word16}
 
 -- A whole field with this tag and this length stands at `at`: three bytes of header, then the payload. "A cut header or payload is a

@@ -7,8 +7,8 @@ use mathlib.Core.Path.{_≡_}
 use Prim.Native.Nat.{ℕ, _+_, _*_, _≤_}
 use lib.Dec.{ltb}
 use lib.ListN.{length}
-use Rattle.refusal.specs.Pick.{pick}
-use Rattle.refusal.specs.declared.Refusal.the-variants.{Malformed}
+use Rattle.prelude.specs.Pick.{pick}
+use Rattle.prelude.specs.declared.Refusal.the-variants.{Malformed}
 use Rattle.form_fields.specs.declared.Kind.{Kind}
 use Rattle.form_fields.specs.declared.Shape.{Shape}
 use Rattle.form_fields.specs.declared.Form.{Form}

@@ -1,6 +1,6 @@
 // A layout file of either form, read: where things stand in a lent file, and which file is broken.
-use refusal::Opt;
-use refusal::Refusal;
+use prelude::Opt;
+use prelude::Refusal;
 ghost use mathlib.Core.Path.{_≡_};
 ghost use Prim.Native.Nat.{_+_, _*_, _<_, _≤_};
 ghost use lib.Dec.{leb};

@@ -2,9 +2,9 @@
 use Prim.Native.Nat.{ℕ}
 use mathlib.Core.List.{List}
 use mathlib.Core.Path.{_≡_, sym, ap, _∙_}
-use Rattle.refusal.specs.Laws.Outcome.{OneOutcome, OneView}
-use Rattle.refusal.specs.Laws.Pick.{determined, paired}
-use Rattle.refusal.specs.declared.Verdict.{Verdict}
+use Rattle.prelude.specs.Laws.Outcome.{OneOutcome, OneView}
+use Rattle.prelude.specs.Laws.Pick.{determined, paired}
+use Rattle.prelude.specs.declared.Verdict.{Verdict}
 use Rattle.form_fields.specs.Lists.{kindsOf, operandsOf, numbersOf, statesOf, listAfter}
 use Rattle.form_lists.proofs.read_banks.Kinds as read-banks-kinds
 use Rattle.form_lists.proofs.read_banks.Reads as read-banks-reads

@@ -7,11 +7,11 @@ use native.Mathlib.Decide.{decLe}
 use native.Mathlib.Omega.{arith}
 use lib.Dec.{leb}
 use borrow.Author.Tests.{eq-eqb, ne-eqb}
-use Rattle.refusal.specs.Laws.Bools.{either}
-use Rattle.refusal.specs.Laws.Pick.{pick-true, pick-false}
-use Rattle.refusal.specs.Limits.{maxPosition}
-use Rattle.refusal.specs.declared.Opt.the-variants.{None, Some}
-use Rattle.refusal.specs.declared.Refusal.the-variants.{Malformed, PositionPast}
+use Rattle.prelude.specs.Laws.Bools.{either}
+use Rattle.prelude.specs.Laws.Pick.{pick-true, pick-false}
+use Rattle.prelude.specs.Limits.{maxPosition}
+use Rattle.prelude.specs.declared.Opt.the-variants.{None, Some}
+use Rattle.prelude.specs.declared.Refusal.the-variants.{Malformed, PositionPast}
 use Rattle.bankdef.specs.declared.Bankdef.{Bankdef}
 use Rattle.iter.specs.Crossing.{crossingOf, halted}
 use Rattle.iter.specs.Distance.{tellable, addressInBits, distanceTo, skipsOf, noSkip, distanceOf}
@@ -27,10 +27,10 @@ use Rattle.iter.specs.declared.Distance.{Distance}
 use Rattle.iter.specs.declared.Distance.the-variants.{Skips}
 use Rattle.iter.specs.declared.Motion.{Motion}
 use Rattle.iter.specs.declared.Moved.the-variants.{To}
-use Rattle.lists.specs.Kinds.{isSymbol}
-use Rattle.lists.specs.Laws.Kinds.{Numbers, stay, switch, mark, add, align, set, other}
-use Rattle.lists.specs.declared.kinds.Doing.the-variants.{Stays, Switches, Symbol, Adds, Aligns, Sets, Unknown}
-use Rattle.lists.specs.declared.Node.{Node}
+use Rattle.nodes.specs.Kinds.{isSymbol}
+use Rattle.nodes.specs.Laws.Kinds.{Numbers, stay, switch, mark, add, align, set, other}
+use Rattle.nodes.specs.declared.kinds.Doing.the-variants.{Stays, Switches, Symbol, Adds, Aligns, Sets, Unknown}
+use Rattle.nodes.specs.declared.Node.{Node}
 use Rattle.iter.specs.declared.Paced.{Paced}
 use Rattle.iter.specs.declared.Pos.{Pos}
 use Rattle.iter.specs.declared.Skipped.{Skipped}

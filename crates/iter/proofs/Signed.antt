@@ -11,8 +11,8 @@ use lib.Signed.{ltZ}
 use mir.Syntax.{w64}
 use mir.Val.{SFits}
 use borrow.Author.Tests.{ltb-true, leb-true, lt-ltb, le-ltb}
-use Rattle.refusal.specs.Limits.{maxStart}
-use Rattle.refusal.specs.Laws.Bools.{both}
+use Rattle.prelude.specs.Limits.{maxStart}
+use Rattle.prelude.specs.Laws.Bools.{both}
 use Rattle.bankdef.specs.declared.Bankdef.{Bankdef}
 use Rattle.iter.specs.Distance.{sizeOf, tellable}
 use Rattle.iter.specs.Laws.Signs.{size-natAbs, neg-plus}

@@ -3,7 +3,7 @@ use Prim.Native.Nat.{ℕ, _+_, _-_, _<_, _≤_}
 use mathlib.Core.Path.{_≡_, sym}
 use native.Mathlib.Omega.{arith}
 use borrow.Author.Tests.{le-leb, lt-leb}
-use Rattle.refusal.specs.Laws.Pick.{pick-true, pick-false}
+use Rattle.prelude.specs.Laws.Pick.{pick-true, pick-false}
 use Rattle.iter.specs.Step.{maxSum, sumAfter}
 
 -- a sum that stays within 64 bits, and one that does not

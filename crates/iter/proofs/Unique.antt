@@ -1,7 +1,7 @@
 -- Uniqueness: each public function's own contract has one outcome. `Learnt` is what the check reads off a function's `ensures` for its
 -- callers, so that a looser clause breaks its line here.
-pub use Rattle.refusal.specs.Laws.Outcome.{OneOutcome}
-use Rattle.refusal.specs.Laws.Pick.{determined}
+pub use Rattle.prelude.specs.Laws.Outcome.{OneOutcome}
+use Rattle.prelude.specs.Laws.Pick.{determined}
 use Rattle.iter.proofs.alignment.bits_until_alignment.Kinds as bits-until-alignment-kinds
 use Rattle.iter.proofs.alignment.bits_until_alignment.Reads as bits-until-alignment-reads
 use Rattle.iter.proofs.alignment.is_tellable.Kinds as is-tellable-kinds

@@ -4,14 +4,14 @@ use Prim.Native.Nat.{ℕ, _+_, _≤_, _<_}
 use mathlib.Core.Path.{_≡_}
 use mathlib.Core.Bool.{true}
 use mathlib.Core.Logic.{_⊎_, _↔_}
-use Rattle.refusal.specs.Limits.{maxPosition}
-use Rattle.refusal.specs.declared.Opt.the-variants.{Some}
+use Rattle.prelude.specs.Limits.{maxPosition}
+use Rattle.prelude.specs.declared.Opt.the-variants.{Some}
 use Rattle.bankdef.specs.declared.Bankdef.{Bankdef}
 use Rattle.iter.specs.Distance.{distanceOf}
 use Rattle.iter.specs.Figures.{OuterSymbol, SoundState}
 use Rattle.iter.specs.declared.Distance.the-variants.{Skips}
 use Rattle.iter.specs.declared.Skipped.{Skipped}
-use Rattle.lists.specs.declared.Node.{Node}
+use Rattle.nodes.specs.declared.Node.{Node}
 use Rattle.iter.specs.declared.Pos.{Pos}
 
 -- Where a node's advance leads, by its kind.

@@ -3,7 +3,7 @@ use Prim.Native.Nat.{ℕ}
 use mathlib.Core.Path.{_≡_}
 use mathlib.Core.Bool.{true, false}
 use lib.IntN.{pos, negsuc}
-use Rattle.refusal.specs.declared.Opt.the-variants.{None}
+use Rattle.prelude.specs.declared.Opt.the-variants.{None}
 use Rattle.bankdef.specs.declared.Bankdef.{Bankdef}
 use Rattle.iter.specs.Distance.{tellable, addressInBits, remainder, noSkip, distanceOf}
 use Rattle.iter.specs.declared.Distance.the-variants.{Skips}

@@ -1,16 +1,16 @@
 -- One node crossed in the bank that it stands in: the step without the other banks. `step-crosses`: a step is this crossing put into the walk, so
 -- that a loop may keep the positions by themselves.
 use Prim.Native.Nat.{ℕ}
-use Rattle.refusal.specs.Pick.{pick}
-use Rattle.refusal.specs.declared.Refusal.{Refusal}
-use Rattle.refusal.specs.declared.Refusal.the-variants.{Malformed}
+use Rattle.prelude.specs.Pick.{pick}
+use Rattle.prelude.specs.declared.Refusal.{Refusal}
+use Rattle.prelude.specs.declared.Refusal.the-variants.{Malformed}
 use Rattle.bankdef.specs.declared.Bankdef.{Bankdef}
 use Rattle.iter.specs.Distance.{noSkip}
 use Rattle.iter.specs.Step.{seenOf, badState, advancedOf, kept, stopped, stepSkips}
 use Rattle.iter.specs.declared.Crossing.{Crossing}
 use Rattle.iter.specs.declared.Moved.{Moved}
 use Rattle.iter.specs.declared.Moved.the-variants.{To, Refused}
-use Rattle.lists.specs.declared.Node.{Node}
+use Rattle.nodes.specs.declared.Node.{Node}
 use Rattle.iter.specs.declared.Pos.{Pos}
 use Rattle.iter.specs.declared.Skipped.{Skipped}
 use Rattle.iter.specs.declared.Stepped.{Stepped}

@@ -2,7 +2,7 @@
 use lib.ListN.{getD}
 use Rattle.iter.specs.Step.{origin, bankAfter}
 use Rattle.iter.specs.declared.Pos.{Pos}
-use Rattle.lists.specs.declared.Node.{Node}
+use Rattle.nodes.specs.declared.Node.{Node}
 use Rattle.iter.specs.declared.Walk.{Walk}
 
 -- the position in the bank that the node stands in, before the step

@@ -1,17 +1,17 @@
 -- What is told of a step, in document 01's figures: what the node sees or why it is refused, what is skipped, and the walk then.
 use Prim.Native.Nat.{ℕ, _≤_, _<_}
 use mathlib.Core.Path.{_≡_}
-use Rattle.refusal.specs.Limits.{maxBanks}
-use Rattle.refusal.specs.Told.{Told, gives, refuses}
-use Rattle.refusal.specs.declared.Place.{Place}
-use Rattle.refusal.specs.declared.Place.the-variants.{One}
+use Rattle.prelude.specs.Limits.{maxBanks}
+use Rattle.prelude.specs.Told.{Told, gives, refuses}
+use Rattle.prelude.specs.declared.Place.{Place}
+use Rattle.prelude.specs.declared.Place.the-variants.{One}
 use Rattle.bankdef.specs.declared.Bankdef.{Bankdef}
 use Rattle.iter.specs.Distance.{noSkip}
 use Rattle.iter.specs.Figures.{toldMoved, Sees, SoundState, Advances, SightSkips, OwnSkips}
 use Rattle.iter.specs.Step.{bankAfter, kept}
 use Rattle.iter.specs.StepCases.{standing}
 use Rattle.iter.specs.declared.Moved.the-variants.{To}
-use Rattle.lists.specs.declared.Node.{Node}
+use Rattle.nodes.specs.declared.Node.{Node}
 use Rattle.iter.specs.declared.Pos.{Pos}
 use Rattle.iter.specs.declared.Skipped.{Skipped}
 use Rattle.iter.specs.declared.Stepped.{Stepped}

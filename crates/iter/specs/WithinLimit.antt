@@ -2,12 +2,12 @@
 use Prim.Native.Nat.{ℕ, _≤_}
 use mathlib.Core.List.{List, [], _∷_}
 use lib.ListN.{getD}
-use Rattle.refusal.specs.Limits.{maxPosition}
+use Rattle.prelude.specs.Limits.{maxPosition}
 use Rattle.bankdef.specs.declared.Bankdef.{Bankdef}
 use Rattle.iter.specs.Step.{origin}
 use Rattle.iter.specs.Step.{bankAfter, stepOf}
 use Rattle.iter.specs.declared.Pos.{Pos}
-use Rattle.lists.specs.declared.Node.{Node}
+use Rattle.nodes.specs.declared.Node.{Node}
 use Rattle.iter.specs.declared.Walk.{Walk}
 
 -- "position: 0 to 4,294,967,295"

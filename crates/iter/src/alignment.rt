@@ -3,7 +3,7 @@ use crate::Distance;
 use crate::Skipped;
 use bankdef::Bankdef;
 use bankdef::magnitude;
-use refusal::Refusal;
+use prelude::Refusal;
 ghost use mathlib.Core.Path.{_≡_};
 ghost use mathlib.Core.Bool.{true};
 ghost use Prim.Native.Nat.{_<_};
@@ -25,7 +25,7 @@ pub fn is_tellable(def: Bankdef) -> bool
     if def.unit == 0 {
         return false;
     }
-    magnitude(start) <= refusal::MAX_START
+    magnitude(start) <= prelude::MAX_START
 }
 
 // "start × unit + position". Both sides of 0 are reckoned in 64 bits: a start of 2^40 units stays below 2^56.

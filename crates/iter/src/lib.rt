@@ -16,7 +16,7 @@ pub use paces::why_refused;
 pub use places::get_address;
 pub use places::get_output_position;
 pub use places::on_boundary;
-use refusal::Refusal;
+use prelude::Refusal;
 pub use steps::bank_after;
 pub use steps::lost_after;
 pub use steps::start;

@@ -7,19 +7,19 @@ use crate::alignment::distance_in_bits;
 use crate::alignment::in_units;
 use crate::alignment::is_tellable;
 use bankdef::Bankdef;
-use lists::Doing;
-use lists::Node;
-use lists::does;
-use lists::reads_state;
-use refusal::DATA;
-use refusal::Opt;
-use refusal::RESOLVED;
-use refusal::Refusal;
-use refusal::UNRESOLVED;
+use nodes::Doing;
+use nodes::Node;
+use nodes::does;
+use nodes::reads_state;
+use prelude::DATA;
+use prelude::Opt;
+use prelude::RESOLVED;
+use prelude::Refusal;
+use prelude::UNRESOLVED;
 ghost use mathlib.Core.Path.{_≡_};
 ghost use mathlib.Core.Bool.{true, false};
 ghost use Prim.Native.Nat.{_≤_};
-ghost use Rattle.refusal.specs.declared.Opt.the-variants.{None};
+ghost use Rattle.prelude.specs.declared.Opt.the-variants.{None};
 ghost use Rattle.iter.specs.Distance.{noSkip};
 ghost use Rattle.iter.specs.Known.{staysKnown};
 ghost use Rattle.iter.specs.Pace.{Paces, Still, bankRead, nodeWith, madeBy, haltedBy, addedBy, alignedBy, seenBy, whyBy};
@@ -71,7 +71,7 @@ fn added(at: Pos, bits: u32, known: bool, lost: Skipped) -> Paced
     ensures { λ r. ⌜ r ≡ addedBy at bits known lost ⌝ }
 {
     let sum = (at.position as u64) + (bits as u64);
-    if refusal::MAX_POSITION < sum {
+    if prelude::MAX_POSITION < sum {
         return halted(at, POSITION_PAST);
     }
     let after = Pos {
@@ -86,7 +86,7 @@ fn aligned_first(at: Pos, skipped: Skipped) -> Paced
     ensures { λ r. ⌜ r ≡ alignedBy at skipped ⌝ }
 {
     let sum = (at.position as u64) + (skipped.bits as u64);
-    if refusal::MAX_POSITION < sum {
+    if prelude::MAX_POSITION < sum {
         return halted(at, POSITION_PAST);
     }
     let seen = Pos {

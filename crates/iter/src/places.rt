@@ -2,13 +2,13 @@
 use crate::Address;
 use crate::alignment::is_tellable;
 use bankdef::Bankdef;
-use refusal::Offset;
-use refusal::Opt;
-use refusal::Refusal;
+use prelude::Offset;
+use prelude::Opt;
+use prelude::Refusal;
 ghost use mathlib.Core.Path.{_≡_};
 ghost use Prim.Native.Nat.{ℕ, _≤_};
-ghost use Rattle.refusal.specs.Limits.{maxOffer};
-ghost use Rattle.refusal.specs.declared.Offset.the-variants.{At as Out};
+ghost use Rattle.prelude.specs.Limits.{maxOffer};
+ghost use Rattle.prelude.specs.declared.Offset.the-variants.{At as Out};
 ghost use Rattle.iter.specs.Address.{addressOf, onBoundary, outputPosition};
 ghost use Rattle.iter.specs.Figures.{toldAddress, Stands};
 

@@ -3,8 +3,8 @@ use crate::Lost;
 use crate::Pos;
 use crate::Skipped;
 use crate::Walk;
-use lists::Node;
-use refusal::SWITCH;
+use nodes::Node;
+use prelude::SWITCH;
 ghost use mathlib.Core.Path.{_≡_};
 ghost use Rattle.iter.specs.Step.{startOf, bankAfter, sumAfter, lostAfter};
 

@@ -10,8 +10,8 @@ use contract.Lifetimes.{Lfts}
 use contract.Monad.{Fun, fact}
 use denote.Triple.Clauses.{AtExit}
 use denote.Triple.Entry.{Args}
-use Rattle.refusal.specs.Laws.Outcome.{OneOutcome}
-use Rattle.refusal.specs.Laws.Pick.{determined}
+use Rattle.prelude.specs.Laws.Outcome.{OneOutcome}
+use Rattle.prelude.specs.Laws.Pick.{determined}
 use Rattle.iter_lent.specs.Lent.{Advanced}
 use Rattle.iter.specs.declared.Paced.{Paced}
 use Rattle.iter_lent.proofs.advanced.Kinds as advanced-kinds

@@ -6,7 +6,7 @@ use Rattle.iter.specs.Crossing.{crossingOf}
 use Rattle.iter.specs.Pace.{numbersOf}
 use Rattle.iter.specs.declared.Paced.{Paced}
 use Rattle.iter.specs.declared.Pos.{Pos}
-use Rattle.lists.specs.declared.Node.{Node}
+use Rattle.nodes.specs.declared.Node.{Node}
 use Rattle.iter_lent.specs.declared.Left.{Left}
 
 -- "A bank's position record is lent to the advance and updated there": it holds where the step leads, and the answer has the step's numbers

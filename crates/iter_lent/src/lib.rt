@@ -2,7 +2,7 @@
 use bankdef::Bankdef;
 use iter::Paced;
 use iter::Pos;
-use lists::Node;
+use nodes::Node;
 ghost use mathlib.Core.Path.{_≡_};
 ghost use Rattle.iter_lent.specs.Lent.{leftBy, Advanced};
 

@@ -3,9 +3,9 @@
 //     layout [FILL [PAGE]]    FILL is the fill's choice, 0 where it is not given; PAGE the page size in bits of a device with pages
 //
 // It writes nothing where an argument is no number, or where there are more.
+use prelude::Opt;
 use print_text::Written;
 use prog_asked::Asked;
-use refusal::Opt;
 ghost use Prim.Native.Nat.{_≤_};
 ghost use lib.ListN.{length, take};
 ghost use Rattle.print_report.specs.Room.{reportRoom};

@@ -3,10 +3,10 @@ use mathlib.Core.Path.{_≡_}
 use mathlib.Core.Bool.{true}
 use mathlib.Core.Logic.{_⊎_}
 use Prim.Native.Nat.{ℕ, _<_}
-use Rattle.refusal.specs.Told.{Told, gives, refuses, Nothing, nothing}
-use Rattle.refusal.specs.declared.Opt.{Opt}
-use Rattle.refusal.specs.declared.Opt.the-variants.{Some}
-use Rattle.refusal.specs.declared.Place.the-variants.{One, Two}
+use Rattle.prelude.specs.Told.{Told, gives, refuses, Nothing, nothing}
+use Rattle.prelude.specs.declared.Opt.{Opt}
+use Rattle.prelude.specs.declared.Opt.the-variants.{Some}
+use Rattle.prelude.specs.declared.Place.the-variants.{One, Two}
 use Rattle.bankdef.specs.declared.Bankdef.{Bankdef}
 use Rattle.bankdef.specs.declared.Bankdefs.{Bankdefs}
 use Rattle.says.specs.Banks.{Fault, Meet}

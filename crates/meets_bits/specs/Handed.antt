@@ -4,8 +4,8 @@ use mathlib.Core.Path.{_≡_}
 use mathlib.Core.List.{List, []}
 use Prim.Native.Nat.{ℕ, _+_, _*_, _<_}
 use lib.ListN.{length, getD}
-use Rattle.refusal.specs.Told.{Told, gives, refuses, Nothing, nothing}
-use Rattle.refusal.specs.declared.Place.the-variants.{One}
+use Rattle.prelude.specs.Told.{Told, gives, refuses, Nothing, nothing}
+use Rattle.prelude.specs.declared.Place.the-variants.{One}
 use Rattle.says.specs.Words.{Tries, Is}
 use Rattle.says.specs.Part.{Unfit}
 

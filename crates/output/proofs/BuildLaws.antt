@@ -10,24 +10,24 @@ use borrow.Author.Tests.{ltb-false, le-ltb, lt-ltb}
 use lib.Dec.{ltb}
 use lib.IntN.{ℤ}
 use lib.ListN.{length}
-use Rattle.refusal.specs.Laws.Bools.{unlike}
-use Rattle.refusal.specs.Pick.{pick}
-use Rattle.refusal.specs.Laws.Pick.{pick-false}
-use Rattle.refusal.specs.declared.Refusal.{Refusal}
-use Rattle.refusal.specs.declared.Refusal.the-variants.{TooShort}
-use Rattle.refusal.specs.declared.Verdict.{Verdict}
-use Rattle.refusal.specs.declared.Verdict.the-variants.{Accepted, Refused as TurnedAway}
+use Rattle.prelude.specs.Laws.Bools.{unlike}
+use Rattle.prelude.specs.Pick.{pick}
+use Rattle.prelude.specs.Laws.Pick.{pick-false}
+use Rattle.prelude.specs.declared.Refusal.{Refusal}
+use Rattle.prelude.specs.declared.Refusal.the-variants.{TooShort}
+use Rattle.prelude.specs.declared.Verdict.{Verdict}
+use Rattle.prelude.specs.declared.Verdict.the-variants.{Accepted, Refused as TurnedAway}
 use Rattle.bankdef.specs.Check.{banksOf}
 use Rattle.iter.specs.declared.Lost.{Lost}
-use Rattle.lists.specs.Lists.{Row}
+use Rattle.nodes.specs.Lists.{Row}
 use Rattle.resolver.specs.Once.{Program}
 use Rattle.overlap_checker.specs.Laws.Ascending.{lt-or-le}
-use Rattle.build_sights.specs.Visits.{visits}
-use Rattle.build_sights.specs.Items.{itemsOf, lengthOf, imageOf}
+use Rattle.build_visits.specs.Visits.{visits}
+use Rattle.build_visits.specs.Items.{itemsOf, lengthOf, imageOf}
 use Rattle.build_write.specs.Blank.{blankOf}
-use Rattle.build_sights.specs.Laws.ItemLaws.{end-within}
+use Rattle.build_visits.specs.Laws.ItemLaws.{end-within}
 use Rattle.build_plan.specs.Placing.{Placed, holds, stops, placedAll}
-use Rattle.build_sights.specs.Spans.{spansOf, over, addresses, words, sizes}
+use Rattle.build_visits.specs.Spans.{spansOf, over, addresses, words, sizes}
 use Rattle.output.specs.Output.{Lent, lent, Room, roomOf, roomFor, outputOf, refusedAfter, placedBuild, buildRow, leftBy}
 use Rattle.build_plan.specs.Laws.Plan.{Planned, verdictPlaced}
 use Rattle.output.specs.Steps.{InValues, roomVerdict, RowBuilt}

@@ -8,46 +8,46 @@ use native.Mathlib.Omega.{arith}
 use borrow.Author.Tests.{ltb-false}
 use lib.Dec.{ltb, leb, eqb}
 use lib.ListN.{length, take, drop}
-use Rattle.refusal.specs.Laws.Bools.{unlike}
-use Rattle.refusal.specs.Limits.{maxNodes, maxRows}
-use Rattle.refusal.specs.Pick.{pick}
-use Rattle.refusal.specs.declared.Refusal.{Refusal}
-use Rattle.refusal.specs.declared.Refusal.the-variants.{Malformed, TooShort}
-use Rattle.refusal.specs.declared.Place.the-variants.{One}
-use Rattle.refusal.specs.Told.{gives, refuses}
-use Rattle.refusal.specs.declared.Offset.{Offset}
-use Rattle.refusal.specs.declared.Offset.the-variants.{None as Nowhere, At as Out}
-use Rattle.lists.specs.Kinds.{isItem}
-use Rattle.lists.specs.declared.Node.{Node}
-use Rattle.refusal.specs.declared.Verdict.{Verdict}
-use Rattle.refusal.specs.declared.Verdict.the-variants.{Accepted, Refused as TurnedAway}
+use Rattle.prelude.specs.Laws.Bools.{unlike}
+use Rattle.prelude.specs.Limits.{maxNodes, maxRows}
+use Rattle.prelude.specs.Pick.{pick}
+use Rattle.prelude.specs.declared.Refusal.{Refusal}
+use Rattle.prelude.specs.declared.Refusal.the-variants.{Malformed, TooShort}
+use Rattle.prelude.specs.declared.Place.the-variants.{One}
+use Rattle.prelude.specs.Told.{gives, refuses}
+use Rattle.prelude.specs.declared.Offset.{Offset}
+use Rattle.prelude.specs.declared.Offset.the-variants.{None as Nowhere, At as Out}
+use Rattle.nodes.specs.Kinds.{isItem}
+use Rattle.nodes.specs.declared.Node.{Node}
+use Rattle.prelude.specs.declared.Verdict.{Verdict}
+use Rattle.prelude.specs.declared.Verdict.the-variants.{Accepted, Refused as TurnedAway}
 use Rattle.bankdef.specs.Check.{banksOf, checkOf}
 use Rattle.bankdef.specs.Fill.{fillBy}
 use Rattle.bankdef.specs.declared.Bankdefs.{Bankdefs}
-use Rattle.lists.specs.Lists.{Lists, Row, Rows, rowAt, pastEnd, rowFault, nodeOf, nodesTo, listsOf, rowWith}
+use Rattle.nodes.specs.Lists.{Lists, Row, Rows, rowAt, pastEnd, rowFault, nodeOf, nodesTo, listsOf, rowWith}
 use Rattle.resolver.specs.Once.{Program, node, programWith}
 use Rattle.resolver.specs.Passes.{program, rowOfPass, resolutionOf}
 use Rattle.resolver.specs.Layout.{unless, layoutOf}
-use Rattle.lists.specs.Theorems.Sound.{accepted-row, accepted-rows}
+use Rattle.nodes.specs.Theorems.Sound.{accepted-row, accepted-rows}
 use Rattle.resolver.specs.declared.Choices.{Choices}
 use Rattle.resolver.specs.declared.Resolution.{Resolution}
 use Rattle.resolver.specs.declared.Settled.{Settled}
 use Rattle.resolver.specs.declared.Settled.the-variants.{At, Refused as Unsettled}
 use Rattle.resolver.specs.Switches.{Switches}
 use Rattle.resolver.specs.Theorems.Switches.{accepted-switches}
-use Rattle.lists.specs.Laws.Counts.{too-many-nodes}
-use Rattle.lists.specs.Laws.RowParts.{first-part, row-part}
+use Rattle.nodes.specs.Laws.Counts.{too-many-nodes}
+use Rattle.nodes.specs.Laws.RowParts.{first-part, row-part}
 use Rattle.overlap_checker.specs.Laws.Ascending.{lt-or-le}
-use Rattle.build_sights.specs.Visits.{visits}
-use Rattle.build_sights.specs.Laws.VisitLaws.{each-from, member-visit}
-use Rattle.build_sights.specs.Items.{isWritten, standing, itemOf, itemsOf}
+use Rattle.build_visits.specs.Visits.{visits}
+use Rattle.build_visits.specs.Laws.VisitLaws.{each-from, member-visit}
+use Rattle.build_visits.specs.Items.{isWritten, standing, itemOf, itemsOf}
 use Rattle.build_plan.specs.Placing.{Placed, holds, stops, placedAll}
 use Rattle.build_plan.specs.Laws.PlacingLaws.{picked-some}
 use Rattle.output.specs.Output.{Input, input, closedOf, Lent, Room, roomOf, roomFor, outputOf, refusedAfter, placedBuild, settledBuild}
 use Rattle.output.specs.Output.{buildOf, visitsOf, passesOf, settledOf}
 use Rattle.output.specs.Output.{toldBuild, roomTold, placedTold, settledTold, leftBy, Builds}
 use Rattle.output.specs.Steps.{InValues, RowBuilt}
-use Rattle.build_sights.specs.declared.Visit.{Visit}
+use Rattle.build_visits.specs.declared.Visit.{Visit}
 use Rattle.output.specs.declared.Build.{Build}
 use Rattle.output.specs.declared.Build.the-variants.{Done, Refused}
 use Rattle.output.specs.declared.Output.{Output}

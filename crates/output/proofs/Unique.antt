@@ -3,8 +3,8 @@ use mathlib.Core.Path.{_≡_}
 use borrow.Fn.Kinds.{endedOf}
 use contract.Lifetimes.{Lfts}
 use denote.Triple.Clauses.{AtExit}
-use Rattle.refusal.specs.Laws.Outcome.{OneOutcome, OneView}
-use Rattle.refusal.specs.Laws.Pick.{determined, paired}
+use Rattle.prelude.specs.Laws.Outcome.{OneOutcome, OneView}
+use Rattle.prelude.specs.Laws.Pick.{determined, paired}
 use Rattle.output.specs.Output.{Lent, lent}
 use Rattle.output.specs.Theorems.Unique.{build-unique}
 use Rattle.output.specs.declared.Output.{Output}

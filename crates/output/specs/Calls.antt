@@ -4,17 +4,17 @@ use mathlib.Core.Bool.{Bool}
 use mathlib.Core.List.{List}
 use Prim.Native.Nat.{ℕ, _*_, _≤_}
 use lib.ListN.{length}
-use Rattle.lists.specs.Lists.{Row}
+use Rattle.nodes.specs.Lists.{Row}
 use Rattle.resolver.specs.Once.{Program}
 use Rattle.resolver.specs.Passes.{program, rowOfPass}
 use Rattle.overlap_checker.specs.State.{State}
-use Rattle.build_sights.specs.Visits.{visitAt, visitsTo}
-use Rattle.build_sights.specs.Items.{Item, itemsOf, lengthOf}
+use Rattle.build_visits.specs.Visits.{visitAt, visitsTo}
+use Rattle.build_visits.specs.Items.{Item, itemsOf, lengthOf}
 use Rattle.build_plan.specs.Placing.{holds, placedAll}
-use Rattle.build_sights.specs.Spans.{Span, spansOf}
+use Rattle.build_visits.specs.Spans.{Span, spansOf}
 use Rattle.output.specs.Output.{Input, closedOf, Lent, Room}
 use Rattle.output.specs.Output.{Builds}
-use Rattle.build_sights.specs.declared.Visit.{Visit}
+use Rattle.build_visits.specs.declared.Visit.{Visit}
 use Rattle.output.specs.declared.Build.the-variants.{Done}
 use Rattle.output.specs.declared.Output.{Output}
 

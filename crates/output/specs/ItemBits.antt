@@ -2,9 +2,9 @@
 -- bit, most significant first"; every other bit is the blank image's. No two items share a bit, none has a bit of a reserve,
 -- and "image length is the larger of the fill's and the furthest end of a written item".
 use Prim.Native.Nat.{ℕ, _+_}
-use Rattle.build_sights.specs.declared.Visit.{Visit}
-use Rattle.build_sights.specs.Visits.{positionOf}
-use Rattle.build_sights.specs.Items.{Item}
+use Rattle.build_visits.specs.declared.Visit.{Visit}
+use Rattle.build_visits.specs.Visits.{positionOf}
+use Rattle.build_visits.specs.Items.{Item}
 use Rattle.output.specs.Output.{fillOf}
 use Rattle.output.specs.Calls.{Call}
 

@@ -2,8 +2,8 @@
 -- is refused was refused.
 use mathlib.Core.Path.{_≡_}
 use Prim.Native.Nat.{ℕ, _<_}
-use Rattle.refusal.specs.declared.Refusal.{Refusal}
-use Rattle.refusal.specs.declared.Verdict.the-variants.{Refused as TurnedAway}
+use Rattle.prelude.specs.declared.Refusal.{Refusal}
+use Rattle.prelude.specs.declared.Verdict.the-variants.{Refused as TurnedAway}
 use Rattle.overlap_checker.specs.State.{State}
 use Rattle.build_plan.specs.Placing.{verdictOn}
 use Rattle.build_plan.specs.Placing.{holds, placedAll}

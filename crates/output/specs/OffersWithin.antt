@@ -2,8 +2,8 @@
 -- 32 bits.
 use Prim.Native.Nat.{ℕ, _≤_}
 use mathlib.Core.Path.{_≡_}
-use Rattle.refusal.specs.Limits.{maxPosition}
-use Rattle.refusal.specs.declared.Opt.the-variants.{Some}
+use Rattle.prelude.specs.Limits.{maxPosition}
+use Rattle.prelude.specs.declared.Opt.the-variants.{Some}
 use Rattle.bankdef.specs.declared.Bankdefs.{Bankdefs}
 use Rattle.resolver.specs.Once.{bankRecord}
 

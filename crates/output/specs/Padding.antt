@@ -8,7 +8,7 @@ use Rattle.iter.specs.Step.{noLost}
 use Rattle.iter.specs.declared.Lost.{Lost}
 use Rattle.resolver.specs.Cases.{oneBank}
 use Rattle.resolver.specs.Layout.{byDefault}
-use Rattle.lists.specs.Lists.{lists}
+use Rattle.nodes.specs.Lists.{lists}
 use Rattle.output.specs.Output.{Input, input}
 
 -- ---- the row of the last pass, and no other

@@ -4,20 +4,20 @@ use mathlib.Core.Bool.{Bool, true, false, _&&_}
 use mathlib.Core.List.{List}
 use mathlib.Core.Logic.{_⊎_}
 use Prim.Native.Nat.{ℕ, suc, _+_, _≤_, _<_}
-use Rattle.refusal.specs.Told.{refuses}
-use Rattle.refusal.specs.declared.Refusal.{Refusal}
-use Rattle.refusal.specs.declared.Refusal.the-variants.{DefaultBank, PastBank, NoOutput}
-use Rattle.refusal.specs.declared.Place.{Place}
-use Rattle.refusal.specs.declared.Verdict.the-variants.{Refused as TurnedAway}
-use Rattle.refusal.specs.declared.Opt.the-variants.{None, Some}
+use Rattle.prelude.specs.Told.{refuses}
+use Rattle.prelude.specs.declared.Refusal.{Refusal}
+use Rattle.prelude.specs.declared.Refusal.the-variants.{DefaultBank, PastBank, NoOutput}
+use Rattle.prelude.specs.declared.Place.{Place}
+use Rattle.prelude.specs.declared.Verdict.the-variants.{Refused as TurnedAway}
+use Rattle.prelude.specs.declared.Opt.the-variants.{None, Some}
 use Rattle.iter.specs.declared.Pos.{Pos}
 use Rattle.iter.specs.declared.Moved.the-variants.{To}
-use Rattle.lists.specs.Kinds.{sizeOf}
+use Rattle.nodes.specs.Kinds.{sizeOf}
 use Rattle.resolver.specs.declared.Settled.the-variants.{At}
 use Rattle.overlap_checker.specs.declared.Entry.{Entry}
 use Rattle.overlap_checker.specs.State.{State, answer}
-use Rattle.build_sights.specs.declared.Visit.{Visit}
-use Rattle.build_sights.specs.Items.{isWritten}
+use Rattle.build_visits.specs.declared.Visit.{Visit}
+use Rattle.build_visits.specs.Items.{isWritten}
 use Rattle.build_plan.specs.Placing.{isPlaced, usesDefault, endsPast, lacksOutput, offerOf, offersOf}
 use Rattle.build_plan.specs.Placing.{answered}
 use Rattle.build_plan.specs.Placing.{holds, stops, placedAll}

@@ -4,9 +4,9 @@
 -- then the items are others.
 use mathlib.Core.List.{List, [], _∷_}
 use Prim.Native.Nat.{ℕ}
-use Rattle.refusal.specs.declared.Verdict.the-variants.{Accepted as Yes}
+use Rattle.prelude.specs.declared.Verdict.the-variants.{Accepted as Yes}
 use Rattle.bitvec.specs.Written.{Writes}
-use Rattle.build_sights.specs.Items.{Item}
+use Rattle.build_visits.specs.Items.{Item}
 
 -- ---- calls that write items one after another
 

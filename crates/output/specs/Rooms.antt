@@ -4,7 +4,7 @@ use Prim.Native.Nat.{ℕ, _*_, _<_, min}
 use lib.ListN.{length}
 use Rattle.resolver.specs.declared.Settled.the-variants.{At}
 use Rattle.overlap_checker.specs.State.{State}
-use Rattle.build_sights.specs.Items.{lengthOf}
+use Rattle.build_visits.specs.Items.{lengthOf}
 use Rattle.build_plan.specs.Placing.{holds, placedAll}
 use Rattle.output.specs.Output.{settledOf, fillOf}
 use Rattle.output.specs.Calls.{Call, closedIn, visitsIn, itemsIn, spansIn}

@@ -4,14 +4,14 @@ use mathlib.Core.Bool.{Bool}
 use mathlib.Core.List.{List, List·Memᴰ}
 use Prim.Native.Nat.{ℕ, _+_, _*_, _≤_}
 use lib.Dec.{ltb}
-use Rattle.refusal.specs.Pick.{pick}
-use Rattle.refusal.specs.declared.Refusal.the-variants.{TooShort}
-use Rattle.refusal.specs.declared.Verdict.{Verdict}
-use Rattle.refusal.specs.declared.Verdict.the-variants.{Accepted, Refused}
-use Rattle.lists.specs.Lists.{Row}
+use Rattle.prelude.specs.Pick.{pick}
+use Rattle.prelude.specs.declared.Refusal.the-variants.{TooShort}
+use Rattle.prelude.specs.declared.Verdict.{Verdict}
+use Rattle.prelude.specs.declared.Verdict.the-variants.{Accepted, Refused}
+use Rattle.nodes.specs.Lists.{Row}
 use Rattle.resolver.specs.Once.{Program}
-use Rattle.build_sights.specs.Visits.{visits}
-use Rattle.build_sights.specs.Items.{Item}
+use Rattle.build_visits.specs.Visits.{visits}
+use Rattle.build_visits.specs.Items.{Item}
 use Rattle.output.specs.Output.{Lent, roomOf, outputOf, buildRow, leftBy}
 use Rattle.output.specs.declared.Output.{Output}
 

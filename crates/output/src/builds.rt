@@ -6,8 +6,8 @@ use build_plan::closes_default;
 use build_plan::plan_row;
 use build_write::write_row;
 use iter::Lost;
-use refusal::Refusal;
-use refusal::Verdict;
+use prelude::Refusal;
+use prelude::Verdict;
 use resolver::Choices;
 use resolver::Settled;
 ghost use mathlib.Core.Path.{_≡_};
@@ -15,14 +15,14 @@ ghost use mathlib.Core.Bool.{true};
 ghost use Prim.Native.Nat.{ℕ, _+_, _*_, _-_, _≤_, _<_, min};
 ghost use lib.Dec.{ltb};
 ghost use lib.ListN.{length};
-ghost use Rattle.refusal.specs.Limits.{maxNodes, maxRows};
+ghost use Rattle.prelude.specs.Limits.{maxNodes, maxRows};
 ghost use Rattle.bankdef.specs.Check.{banksOf};
 ghost use Rattle.bankdef.specs.Fill.{fillBy};
-ghost use Rattle.lists.specs.Lists.{lists, rowWith};
+ghost use Rattle.nodes.specs.Lists.{lists, rowWith};
 ghost use Rattle.resolver.specs.Switches.{Switches};
 ghost use Rattle.resolver.specs.Once.{programWith};
-ghost use Rattle.build_sights.specs.Visits.{visits};
-ghost use Rattle.build_sights.specs.Items.{itemsOf};
+ghost use Rattle.build_visits.specs.Visits.{visits};
+ghost use Rattle.build_visits.specs.Items.{itemsOf};
 ghost use Rattle.build_plan.specs.Placing.{closesDefault};
 ghost use Rattle.output.specs.Output.{input, lent, refusedAfter, Builds};
 ghost use Rattle.build_plan.specs.Plan.{maxEnd};
@@ -102,8 +102,8 @@ fn build_row(
     }
     let length = plan.length;
     let spans = plan.spans;
-    let two = refusal::lesser(offsets.len() as u64, sizes.len() as u64);
-    let places = refusal::lesser(addresses.len() as u64, two);
+    let two = prelude::lesser(offsets.len() as u64, sizes.len() as u64);
+    let places = prelude::lesser(addresses.len() as u64, two);
     let room = room_for(image.len() as u64, places, length, spans);
     if let Verdict::Refused(why) = room {
         return refused(why, passes);
@@ -136,7 +136,7 @@ pub fn row_start(rows: u64, passes: u64, n: usize) -> usize
     ensures { λ r. ⌜ r ≡ (min passes rows - 1) * n ⌝ }
     ensures { λ r. ⌜ r + n ≤ rows * n ⌝ }
 {
-    let last = refusal::lesser(passes, rows);
+    let last = prelude::lesser(passes, rows);
     if last == 0 {
         return 0;
     }

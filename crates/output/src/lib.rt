@@ -4,7 +4,7 @@ mod builds;
 pub use builds::build_output;
 pub use builds::row_start;
 use iter::Lost;
-use refusal::Refusal;
+use prelude::Refusal;
 
 // What a build answers: pass K, the image's length in bits and the number of spans; or why it is refused. And the passes run.
 pub enum Build {

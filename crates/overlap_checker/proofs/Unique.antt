@@ -4,8 +4,8 @@ use mathlib.Core.Path.{_≡_}
 use contract.Lifetimes.{Lfts}
 use borrow.Fn.Kinds.{Dens, resT, endedOf}
 use denote.Triple.Clauses.{AtExit}
-use Rattle.refusal.specs.Laws.Outcome.{OneOutcome}
-use Rattle.refusal.specs.Laws.Pick.{determined}
+use Rattle.prelude.specs.Laws.Outcome.{OneOutcome}
+use Rattle.prelude.specs.Laws.Pick.{determined}
 use Rattle.overlap_checker.specs.Laws.Unique.{offers-unique, answers-alike}
 use Rattle.overlap_checker.proofs.answered.Kinds as answered-kinds
 use Rattle.overlap_checker.proofs.answered.Reads as answered-reads

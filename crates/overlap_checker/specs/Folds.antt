@@ -3,10 +3,10 @@ use mathlib.Core.Path.{_≡_}
 use mathlib.Core.List.{List, [], _∷_, List·Memᴰ}
 use Prim.Native.Nat.{ℕ}
 use lib.Dec.{ltb}
-use Rattle.refusal.specs.Pick.{pick}
-use Rattle.refusal.specs.Told.{refuses, toldVerdict}
-use Rattle.refusal.specs.declared.Place.{Place}
-use Rattle.refusal.specs.declared.Verdict.{Verdict}
+use Rattle.prelude.specs.Pick.{pick}
+use Rattle.prelude.specs.Told.{refuses, toldVerdict}
+use Rattle.prelude.specs.declared.Place.{Place}
+use Rattle.prelude.specs.declared.Verdict.{Verdict}
 use Rattle.overlap_checker.specs.declared.Entry.{Entry}
 use Rattle.overlap_checker.specs.Interval.{Covers, StrictlyInside, Within}
 use Rattle.overlap_checker.specs.Lent.{Lent, Calls}

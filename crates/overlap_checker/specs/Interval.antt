@@ -2,8 +2,8 @@
 use mathlib.Core.Bool.{Bool, _&&_, _||_}
 use Prim.Native.Nat.{ℕ, _+_, _≤_, _<_, min, max}
 use lib.Dec.{ltb, eqb}
-use Rattle.refusal.specs.Limits.{maxOffer, maxPosition}
-use Rattle.refusal.specs.Pick.{pick}
+use Rattle.prelude.specs.Limits.{maxOffer, maxPosition}
+use Rattle.prelude.specs.Pick.{pick}
 use Rattle.overlap_checker.specs.declared.Entry.{Entry}
 
 -- `size` bits from `position` on

@@ -5,8 +5,8 @@ use mathlib.Core.List.{List, [], _∷_, List·Memᴰ}
 use Prim.Native.Nat.{ℕ, suc, _≤_, _<_}
 use lib.Dec.{ltb}
 use lib.ListN.{length, getD}
-use Rattle.refusal.specs.Limits.{maxOffer}
-use Rattle.refusal.specs.Pick.{pick}
+use Rattle.prelude.specs.Limits.{maxOffer}
+use Rattle.prelude.specs.Pick.{pick}
 use Rattle.overlap_checker.specs.declared.Entry.{Entry}
 use Rattle.overlap_checker.specs.Interval.{interval, StrictlyInside, strictlyInside}
 use Rattle.overlap_checker.specs.Offers.{clashesAny}

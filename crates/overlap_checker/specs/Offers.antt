@@ -3,8 +3,8 @@ use mathlib.Core.Bool.{Bool, false, _||_}
 use mathlib.Core.List.{List, [], _∷_}
 use Prim.Native.Nat.{ℕ, suc}
 use lib.Dec.{ltb, leb}
-use Rattle.refusal.specs.Limits.{maxStored}
-use Rattle.refusal.specs.Pick.{pick}
+use Rattle.prelude.specs.Limits.{maxStored}
+use Rattle.prelude.specs.Pick.{pick}
 use Rattle.overlap_checker.specs.declared.Entry.{Entry}
 use Rattle.overlap_checker.specs.Entries.{entryAt, entryBefore}
 use Rattle.overlap_checker.specs.Interval.{clashes}

@@ -3,9 +3,9 @@
 use mathlib.Core.Path.{_≡_}
 use mathlib.Core.List.{List, [], _∷_}
 use lib.ListN.{length}
-use Rattle.refusal.specs.Limits.{maxStored}
-use Rattle.refusal.specs.declared.Verdict.{Verdict}
-use Rattle.refusal.specs.declared.Verdict.the-variants.{Accepted}
+use Rattle.prelude.specs.Limits.{maxStored}
+use Rattle.prelude.specs.declared.Verdict.{Verdict}
+use Rattle.prelude.specs.declared.Verdict.the-variants.{Accepted}
 use Rattle.overlap_checker.specs.Lent.{Lent}
 
 -- "accepted as a whole": every answer is yes

@@ -4,12 +4,12 @@ use mathlib.Core.List.{List, [], _∷_, _++_}
 use Prim.Native.Nat.{ℕ}
 use lib.Dec.{ltb}
 use lib.ListN.{length, take, drop}
-use Rattle.refusal.specs.Pick.{pick}
-use Rattle.refusal.specs.Told.{Told, gives, refuses, Nothing, nothing}
-use Rattle.refusal.specs.declared.Refusal.the-variants.{Overlap, StoreFull}
-use Rattle.refusal.specs.declared.Place.the-variants.{One, Two}
-use Rattle.refusal.specs.declared.Verdict.{Verdict}
-use Rattle.refusal.specs.declared.Verdict.the-variants.{Accepted, Refused}
+use Rattle.prelude.specs.Pick.{pick}
+use Rattle.prelude.specs.Told.{Told, gives, refuses, Nothing, nothing}
+use Rattle.prelude.specs.declared.Refusal.the-variants.{Overlap, StoreFull}
+use Rattle.prelude.specs.declared.Place.the-variants.{One, Two}
+use Rattle.prelude.specs.declared.Verdict.{Verdict}
+use Rattle.prelude.specs.declared.Verdict.the-variants.{Accepted, Refused}
 use Rattle.overlap_checker.specs.declared.Entry.{Entry}
 use Rattle.overlap_checker.specs.Interval.{interval}
 use Rattle.overlap_checker.specs.Offers.{placeFor, clashesAny, named, lacksRoom}

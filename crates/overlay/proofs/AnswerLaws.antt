@@ -3,12 +3,12 @@ use mathlib.Core.Path.{_≡_, refl, sym, ap, _∙_}
 use mathlib.Core.Bool.{Bool, true, false}
 use Prim.Native.Nat.{ℕ}
 use lib.ListN.{length}
-use Rattle.refusal.specs.Laws.Bools.{unlike}
-use Rattle.refusal.specs.Pick.{pick}
-use Rattle.refusal.specs.Told.{gives, refuses}
-use Rattle.refusal.specs.declared.Place.the-variants.{One}
-use Rattle.refusal.specs.declared.Refusal.{Refusal}
-use Rattle.refusal.specs.declared.Refusal.the-variants.{Malformed, BadPart, PartlyCovered}
+use Rattle.prelude.specs.Laws.Bools.{unlike}
+use Rattle.prelude.specs.Pick.{pick}
+use Rattle.prelude.specs.Told.{gives, refuses}
+use Rattle.prelude.specs.declared.Place.the-variants.{One}
+use Rattle.prelude.specs.declared.Refusal.{Refusal}
+use Rattle.prelude.specs.declared.Refusal.the-variants.{Malformed, BadPart, PartlyCovered}
 use Rattle.overlay.specs.declared.Source.{Source}
 use Rattle.overlay.specs.declared.Source.the-variants.{Overlay, Released, Refused}
 use Rattle.overlay.specs.Cover.{coveredBit, allCovered, noneCovered}

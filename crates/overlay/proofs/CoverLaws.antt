@@ -5,7 +5,7 @@ use mathlib.Core.List.{List}
 use Prim.Native.Nat.{ℕ, _+_, _-_, _*_, _/_, _≤_, _<_}
 use native.Mathlib.Omega.{arith}
 use lib.ListN.{length, getD}
-use Rattle.refusal.specs.declared.Refusal.the-variants.{PartlyCovered}
+use Rattle.prelude.specs.declared.Refusal.the-variants.{PartlyCovered}
 use Rattle.overlay.specs.declared.Source.the-variants.{Overlay, Released, Refused}
 use Rattle.overlay.specs.Cover.{coveredBit}
 use Rattle.overlay.specs.Theorems.CoverFacts.{all-from-bits, all-fails, none-from, none-fails}

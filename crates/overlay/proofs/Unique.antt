@@ -4,8 +4,8 @@ use mathlib.Core.Path.{_≡_}
 use borrow.Fn.Kinds.{Dens, resT, endedOf}
 use contract.Lifetimes.{Lfts}
 use denote.Triple.Clauses.{AtExit}
-use Rattle.refusal.specs.Laws.Outcome.{OneOutcome}
-use Rattle.refusal.specs.Laws.Pick.{determined}
+use Rattle.prelude.specs.Laws.Outcome.{OneOutcome}
+use Rattle.prelude.specs.Laws.Pick.{determined}
 use Rattle.overlay.proofs.which.Kinds as which-kinds
 use Rattle.overlay.proofs.which.Reads as which-reads
 use Rattle.overlay.proofs.pick.Kinds as pick-kinds

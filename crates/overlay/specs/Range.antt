@@ -5,10 +5,10 @@ use mathlib.Core.List.{List, []}
 use Prim.Native.Nat.{ℕ, _+_, _≤_, _<_}
 use lib.Dec.{ltb, leb}
 use lib.ListN.{length, take, drop}
-use Rattle.refusal.specs.Pick.{pick}
-use Rattle.refusal.specs.Told.{Told, gives, refuses, toldRefusal}
-use Rattle.refusal.specs.declared.Place.the-variants.{One}
-use Rattle.refusal.specs.declared.Refusal.the-variants.{Malformed, BadPart, PartlyCovered}
+use Rattle.prelude.specs.Pick.{pick}
+use Rattle.prelude.specs.Told.{Told, gives, refuses, toldRefusal}
+use Rattle.prelude.specs.declared.Place.the-variants.{One}
+use Rattle.prelude.specs.declared.Refusal.the-variants.{Malformed, BadPart, PartlyCovered}
 use Rattle.overlay.specs.declared.Source.{Source}
 use Rattle.overlay.specs.declared.Source.the-variants.{Overlay, Released, Refused}
 use Rattle.overlay.specs.Cover.{coveredBit, allCovered, noneCovered}

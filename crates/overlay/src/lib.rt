@@ -1,6 +1,6 @@
 // On the bench: the released image and a small overlay of curves under trial, both at the same offsets. A byte range is answered from
 // one of the two, and the bytes at which the overlay changes something are listed.
-use refusal::Refusal;
+use prelude::Refusal;
 ghost use mathlib.Core.Path.{_≡_};
 ghost use mathlib.Core.Bool.{true, false};
 ghost use Prim.Native.Nat.{_+_, _-_, _/_, _≤_, _<_, min};
@@ -217,7 +217,7 @@ fn same_stretch(overlay: &[u8], released: &[u8], at: usize) -> bool
 {
     let mut ok = true;
     for j in 0..64 {
-        ok = refusal::both(ok, overlay[at + j] == released[at + j]);
+        ok = prelude::both(ok, overlay[at + j] == released[at + j]);
     }
     ok
 }

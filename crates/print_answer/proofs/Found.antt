@@ -9,10 +9,10 @@ use lib.Dec.{leb}
 use lib.ListN.{length, take, drop}
 use lib.Seq.{take-at}
 use borrow.Author.Tests.{le-leb}
-use Rattle.refusal.specs.Laws.Bools.{unlike}
-use Rattle.refusal.specs.Limits.{maxNodes}
-use Rattle.refusal.specs.Laws.Pick.{pick-true}
-use Rattle.refusal.specs.declared.Refusal.{Refusal}
+use Rattle.prelude.specs.Laws.Bools.{unlike}
+use Rattle.prelude.specs.Limits.{maxNodes}
+use Rattle.prelude.specs.Laws.Pick.{pick-true}
+use Rattle.prelude.specs.declared.Refusal.{Refusal}
 use Rattle.bitvec.specs.HexDigits.{hexOf, digitCount, Prints}
 use Rattle.bitvec.specs.Theorems.HexDigits.{length-hexOf}
 use Rattle.bitvec.specs.declared.Hex.{Hex}

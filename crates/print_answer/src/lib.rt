@@ -6,7 +6,7 @@ ghost use mathlib.Core.Path.{_≡_};
 ghost use mathlib.Core.Bool.{true};
 ghost use Prim.Native.Nat.{_+_, _*_, _/_, _<_, _≤_};
 ghost use lib.ListN.{length};
-ghost use Rattle.refusal.specs.Limits.{maxNodes};
+ghost use Rattle.prelude.specs.Limits.{maxNodes};
 ghost use Rattle.bitvec.specs.HexDigits.{hexOf, digitCount};
 ghost use Rattle.blocks.specs.Spans.{acceptable};
 ghost use Rattle.print_text.specs.Lines.{layoutText};

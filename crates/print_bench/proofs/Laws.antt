@@ -10,12 +10,12 @@ use borrow.Author.Tests.{le-leb, lt-ltb, le-ltb, eq-eqb, ne-eqb}
 use lib.Dec.{leb}
 use lib.ListN.{length, take, drop, getD, length-append, length-take, length-drop, drop-of-length-le}
 use lib.Seq.{sets, sets-eq, length-sets, take-all, drop-drop, drop-cons, length-take-le}
-use Rattle.refusal.specs.Laws.Bools.{unlike}
+use Rattle.prelude.specs.Laws.Bools.{unlike}
 use Rattle.io.specs.Counts.{Counts}
-use Rattle.refusal.specs.Laws.Pick.{pick-true, pick-false}
-use Rattle.refusal.specs.Pick.{pick}
-use Rattle.refusal.specs.declared.Refusal.{Refusal}
-use Rattle.refusal.specs.declared.Refusal.the-variants.{BadPart}
+use Rattle.prelude.specs.Laws.Pick.{pick-true, pick-false}
+use Rattle.prelude.specs.Pick.{pick}
+use Rattle.prelude.specs.declared.Refusal.{Refusal}
+use Rattle.prelude.specs.declared.Refusal.the-variants.{BadPart}
 use Rattle.bitvec.specs.HexDigits.{digitCount, hexOf, hexAfter, Prints}
 use Rattle.bitvec.specs.Theorems.HexDigits.{length-hexOf}
 use Rattle.bitvec.specs.declared.Hex.{Hex}

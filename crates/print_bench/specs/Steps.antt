@@ -7,7 +7,7 @@ use lib.ListN.{length, take, getD}
 use Rattle.blocks.specs.declared.Blocks.{Blocks}
 use Rattle.blocks.specs.declared.Blocks.the-variants.{Found, Refused}
 use Rattle.prog_args.specs.Text.{Stands}
-use Rattle.refusal.specs.Pick.{pick}
+use Rattle.prelude.specs.Pick.{pick}
 use Rattle.print_bench.specs.declared.Asked.the-variants.{Runs, Range}
 use Rattle.print_bench.specs.Images.{bytesRoom, blocksRoom, File, given, unread}
 use Rattle.print_bench.specs.Program.{benchText}

@@ -10,8 +10,8 @@ use bitvec::Hex;
 use blocks::Blocks;
 use overlay::Listed;
 use overlay::Source;
-use record_fault::Fault;
-use refusal::Refusal;
+use prelude::Refusal;
+use record_scan::Fault;
 ghost use mathlib.Core.Path.{_≡_};
 ghost use Prim.Native.Nat.{_+_, _/_, _≤_, min, max};
 ghost use lib.ListN.{length};
@@ -19,7 +19,7 @@ ghost use Rattle.io.specs.Counts.{Counts};
 ghost use Rattle.overlay.specs.Trial.{trial};
 ghost use Rattle.print_text.specs.Puts.{Writes};
 ghost use Rattle.prog_args.specs.Text.{Stands};
-ghost use Rattle.refusal.specs.Pick.{pick};
+ghost use Rattle.prelude.specs.Pick.{pick};
 ghost use Rattle.print_bench.specs.declared.Asked.the-variants.{Runs, Range};
 ghost use Rattle.print_bench.specs.Images.{bytesRoom, blocksRoom, fileOf, faultIn, unreadText, extentOf, beyondOf, freeFrom, aloneIn};
 ghost use Rattle.print_bench.specs.Program.{runsRoom, field, runText, runLines, aloneText, listText, namedText, bytesText};
@@ -504,7 +504,7 @@ fn put_fault(load: u32, source: &[u8], at: usize, out: &mut [u8]) -> usize
         return at;
     }
     let mut scratch = [0u8; SCRATCH];
-    let fault = record_fault::line_at_fault(0, source, load, &mut scratch);
+    let fault = record_scan::line_at_fault(0, source, load, &mut scratch);
     match fault {
         Fault::Good => at,
         Fault::At(line) => {

@@ -4,11 +4,11 @@ use mathlib.Core.List.{List}
 use Prim.Native.Nat.{ℕ, zero, suc, _+_, _*_, _≤_, _<_}
 use native.Mathlib.Omega.{arith}
 use lib.ListN.{length, take, drop, length-append, length-drop}
-use Rattle.refusal.specs.Limits.{maxNodes}
-use Rattle.refusal.specs.declared.Opt.{Opt}
-use Rattle.refusal.specs.declared.Refusal.{Refusal}
-use Rattle.refusal.specs.declared.Verdict.{Verdict}
-use Rattle.refusal.specs.declared.Verdict.the-variants.{Accepted, Refused}
+use Rattle.prelude.specs.Limits.{maxNodes}
+use Rattle.prelude.specs.declared.Opt.{Opt}
+use Rattle.prelude.specs.declared.Refusal.{Refusal}
+use Rattle.prelude.specs.declared.Verdict.{Verdict}
+use Rattle.prelude.specs.declared.Verdict.the-variants.{Accepted, Refused}
 use Rattle.bankdef.specs.declared.Bankdefs.{Bankdefs}
 use Rattle.bitvec.specs.Lists.{listOf}
 use Rattle.bitvec.specs.Laws.Lists.{length-listOf}
@@ -18,7 +18,7 @@ use Rattle.form_fields.specs.Shape.{formOf}
 use Rattle.form_fields.specs.Banks.{tableOf}
 use Rattle.form_fields.specs.Lists.{kindsOf, operandsOf, numbersOf, statesOf, valuesBy}
 use Rattle.form_fields.specs.Theorems.Filled.{places}
-use Rattle.lists.specs.Lists.{lists}
+use Rattle.nodes.specs.Lists.{lists}
 use Rattle.resolver.specs.Passes.{program, rowOfPass}
 use Rattle.resolver.specs.declared.Choices.{Choices}
 use Rattle.output.specs.Output.{Input, input}

@@ -2,7 +2,7 @@
 use mathlib.Core.List.{List, [], _++_}
 use Prim.Native.Nat.{ℕ, zero, suc, min}
 use lib.ListN.{getD}
-use Rattle.refusal.specs.Limits.{maxBanks}
+use Rattle.prelude.specs.Limits.{maxBanks}
 use Rattle.bankdef.specs.declared.Bankdefs.{Bankdefs}
 use Rattle.form_fields.specs.declared.Shape.{Shape}
 use Rattle.build_map.specs.declared.Map.{Map}

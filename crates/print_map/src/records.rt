@@ -6,17 +6,17 @@ use blocks::NO_OFFSET;
 use build_map::Fault;
 use iter::Address;
 use iter::Lost;
+use prelude::Opt;
+use prelude::Place;
+use prelude::Refusal;
+use prelude::Verdict;
 use print_text::write_word;
-use refusal::Opt;
-use refusal::Place;
-use refusal::Refusal;
-use refusal::Verdict;
 ghost use mathlib.Core.Path.{_≡_};
 ghost use Prim.Native.Nat.{_+_, _*_, _≤_, min};
 ghost use lib.Dec.{eqb};
 ghost use lib.ListN.{length};
-ghost use Rattle.refusal.specs.Limits.{maxBanks, maxNodes};
-ghost use Rattle.refusal.specs.Pick.{pick};
+ghost use Rattle.prelude.specs.Limits.{maxBanks, maxNodes};
+ghost use Rattle.prelude.specs.Pick.{pick};
 ghost use Rattle.blocks.specs.Offsets.{noOffset};
 ghost use Rattle.print_text.specs.Puts.{Writes};
 ghost use Rattle.print_map.specs.Marks.{signOf, markOf, valueOf, addressMark, addressValue, bitOf};
@@ -120,7 +120,7 @@ pub(crate) fn write_banks(out: &mut [u8], at: usize, banks: Bankdefs, padding: [
     ensures { λ r. ⌜ Writes (banksText banks padding (min (banks .len) maxBanks)) (now (out .entry)) at r (now (out .exit)) ⌝ }
     ensures { λ r. ⌜ r ≤ at + 3680 ⌝ }
 {
-    let count = refusal::lesser(banks.len, 16);
+    let count = prelude::lesser(banks.len, 16);
     let mut end = at;
     for i in 0..count {
         let def = resolver::bank_record(banks, i);
@@ -220,8 +220,8 @@ pub(crate) fn write_refused(out: &mut [u8], at: usize, why: Refusal) -> usize
     ensures { λ r. ⌜ Writes (refusedText why) (now (out .entry)) at r (now (out .exit)) ⌝ }
     ensures { λ r. ⌜ r ≤ at + 80 ⌝ }
 {
-    let number = refusal::number(why);
-    match refusal::place_of(why) {
+    let number = prelude::number(why);
+    match prelude::place_of(why) {
         Place::One(p) => {
             let marks = [0u8, 0];
             let numbers = [number, p];

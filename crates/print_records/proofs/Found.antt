@@ -7,10 +7,10 @@ use native.Mathlib.Omega.{arith}
 use borrow.Author.Tests.{le-leb}
 use lib.ListN.{length, take, drop, length-map}
 use lib.Seq.{take-at}
-use Rattle.refusal.specs.Laws.Bools.{unlike}
-use Rattle.refusal.specs.Laws.Pick.{pick-true}
-use Rattle.refusal.specs.Limits.{maxNodes}
-use Rattle.refusal.specs.declared.Refusal.{Refusal}
+use Rattle.prelude.specs.Laws.Bools.{unlike}
+use Rattle.prelude.specs.Laws.Pick.{pick-true}
+use Rattle.prelude.specs.Limits.{maxNodes}
+use Rattle.prelude.specs.declared.Refusal.{Refusal}
 use Rattle.blocks.specs.Outcome.{origins, sizes, over, roomFor, Contract}
 use Rattle.blocks.specs.Spans.{spansOf, acceptable}
 use Rattle.blocks.specs.Theorems.Acceptable.{acceptable-parts}

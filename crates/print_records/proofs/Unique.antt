@@ -2,8 +2,8 @@
 use mathlib.Core.List.{List}
 use Prim.Native.Nat.{ℕ, _≤_}
 use lib.ListN.{length}
-use Rattle.refusal.specs.Laws.Outcome.{OneView}
-use Rattle.refusal.specs.Laws.Pick.{determined, paired}
+use Rattle.prelude.specs.Laws.Outcome.{OneView}
+use Rattle.prelude.specs.Laws.Pick.{determined, paired}
 use Rattle.print_records.specs.Steps.{textRoom}
 use Rattle.print_records.proofs.put_file.Kinds as put-file-kinds
 use Rattle.print_records.proofs.put_file.Reads as put-file-reads

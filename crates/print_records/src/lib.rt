@@ -1,14 +1,14 @@
 // A layout file's image as a file of records for the flash station: what the program behind tools/ihex and tools/srec prints.
 use blocks::Blocks;
 use output::Build;
+use prelude::Opt;
+use prelude::Refusal;
 use record_write::Written;
-use refusal::Opt;
-use refusal::Refusal;
 ghost use mathlib.Core.Path.{_≡_};
 ghost use mathlib.Core.Bool.{true};
 ghost use Prim.Native.Nat.{_*_, _≤_, min};
 ghost use lib.ListN.{length};
-ghost use Rattle.refusal.specs.Limits.{maxNodes};
+ghost use Rattle.prelude.specs.Limits.{maxNodes};
 ghost use Rattle.blocks.specs.Spans.{spansOf, acceptable};
 ghost use Rattle.blocks.specs.Walk.{blocksOf};
 ghost use Rattle.record_write.specs.Cut.{blocksIn};

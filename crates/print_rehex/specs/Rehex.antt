@@ -4,11 +4,11 @@ use mathlib.Core.List.{List, [], _∷_, _++_}
 use Prim.Native.Nat.{ℕ}
 use lib.Dec.{leb}
 use lib.ListN.{length}
-use Rattle.refusal.specs.Pick.{pick}
-use Rattle.refusal.specs.declared.Refusal.the-variants.{Malformed, TooShort}
+use Rattle.prelude.specs.Pick.{pick}
+use Rattle.prelude.specs.declared.Refusal.the-variants.{Malformed, TooShort}
 use Rattle.print_text.specs.Ascii.{ascii}
 use Rattle.print_text.specs.Lines.{line, refusalText}
-use Rattle.record_fault.specs.Reading.{Read, sound, faulty, readText}
+use Rattle.record_scan.specs.Reading.{Read, sound, faulty, readText}
 use Rattle.record_read.specs.Given.{filled}
 use Rattle.record_read.specs.Runs.{reach, blocksGiven}
 use Rattle.record_write.specs.Text.{textOf}

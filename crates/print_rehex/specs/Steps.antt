@@ -5,7 +5,7 @@ use Prim.Native.Nat.{ℕ}
 use Rattle.blocks.specs.declared.Block.{Block}
 use Rattle.print_text.specs.Lines.{refusalText}
 use Rattle.prog_args.specs.Text.{Stands}
-use Rattle.record_fault.specs.Reading.{Read}
+use Rattle.record_scan.specs.Reading.{Read}
 use Rattle.record_write.specs.declared.Written.{Written}
 use Rattle.record_write.specs.declared.Written.the-variants.{Length, Refused}
 use Rattle.thm_record_room.specs.Records.{recordsOr, PutsOr}

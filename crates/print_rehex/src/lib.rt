@@ -1,8 +1,8 @@
 // The text of a file of records, turned to records of the kind that is asked for: the same bytes at the same addresses, or why not.
 use blocks::Blocks;
-use record_fault::Fault;
+use prelude::Refusal;
+use record_scan::Fault;
 use record_write::Written;
-use refusal::Refusal;
 ghost use mathlib.Core.List.{_++_};
 ghost use mathlib.Core.Path.{_≡_};
 ghost use Prim.Native.Nat.{_≤_};
@@ -11,7 +11,7 @@ ghost use Rattle.print_text.specs.Lines.{refusalText};
 ghost use Rattle.print_text.specs.Puts.{Puts};
 ghost use Rattle.print_text.specs.declared.Written.the-variants.{To};
 ghost use Rattle.prog_args.specs.Text.{lineRoom, Stands};
-ghost use Rattle.record_fault.specs.Reading.{faulty, readText};
+ghost use Rattle.record_scan.specs.Reading.{faulty, readText};
 ghost use Rattle.print_rehex.specs.Rehex.{bytesRoom, blocksRoom, faultText, turnedText};
 ghost use Rattle.print_rehex.specs.Steps.{textRoom, Turns};
 
@@ -77,7 +77,7 @@ fn put_fault(why: Refusal, kind: u8, load: u32, source: &[u8], out: &mut [u8]) -
 {
     let at = prog_args::put_refusal(why, out);
     let mut scratch = [0u8; SCRATCH];
-    let fault = record_fault::line_at_fault(kind, source, load, &mut scratch);
+    let fault = record_scan::line_at_fault(kind, source, load, &mut scratch);
     match fault {
         Fault::Good => at,
         Fault::At(line) => put_line(at, line, out),

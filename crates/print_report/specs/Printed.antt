@@ -5,8 +5,8 @@ use Rattle.bankdef.specs.Check.{banksOf}
 use Rattle.blocks.specs.Spans.{spansOf}
 use Rattle.blocks.specs.Walk.{blocksOf}
 use Rattle.blocks.specs.declared.Block.{Block}
-use Rattle.build_sights.specs.Items.{itemsOf, imageOf}
-use Rattle.build_sights.specs.Spans.{spansOf as spansIn, words, sizes as spanSizes}
+use Rattle.build_visits.specs.Items.{itemsOf, imageOf}
+use Rattle.build_visits.specs.Spans.{spansOf as spansIn, words, sizes as spanSizes}
 use Rattle.build_write.specs.Blank.{blankOf}
 use Rattle.form_fields.specs.Banks.{tableOf}
 use Rattle.form_build.specs.Filed.{listsIn, fileVisits}

@@ -2,14 +2,14 @@
 -- 4,096 blocks"; document 02: "The program reads either").
 use mathlib.Core.List.{List}
 use Prim.Native.Nat.{ℕ}
-use Rattle.refusal.specs.declared.Opt.{Opt}
+use Rattle.prelude.specs.declared.Opt.{Opt}
 use Rattle.bankdef.specs.Check.{banksOf}
 use Rattle.bankdef.specs.declared.Bankdefs.{Bankdefs}
 use Rattle.build_write.specs.Blank.{blankOf}
-use Rattle.build_sights.specs.Items.{itemsOf, imageOf}
-use Rattle.build_sights.specs.Spans.{spansOf as spansIn, words, sizes as spanSizes}
+use Rattle.build_visits.specs.Items.{itemsOf, imageOf}
+use Rattle.build_visits.specs.Spans.{spansOf as spansIn, words, sizes as spanSizes}
 use Rattle.output.specs.Output.{Room}
-use Rattle.build_sights.specs.declared.Visit.{Visit}
+use Rattle.build_visits.specs.declared.Visit.{Visit}
 use Rattle.output.specs.declared.Build.{Build}
 use Rattle.output.specs.declared.Build.the-variants.{Done, Refused}
 use Rattle.output.specs.declared.Output.{Output}

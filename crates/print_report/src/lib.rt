@@ -1,6 +1,6 @@
 // What the program prints for a file: its layout built, and the text of the build's answer.
+use prelude::Opt;
 use print_text::Written;
-use refusal::Opt;
 ghost use mathlib.Core.Path.{_≡_};
 ghost use lib.ListN.{length};
 ghost use Rattle.print_text.specs.Puts.{Puts};

@@ -1,7 +1,7 @@
 // The printed text, written into a lent buffer: a call answers where its text ends, and text that does not fit leaves the buffer
 // as it was. Room is measured first, then written.
-use refusal::Place;
-use refusal::Refusal;
+use prelude::Place;
+use prelude::Refusal;
 ghost use mathlib.Core.Path.{_≡_};
 ghost use mathlib.Core.List.{[], _∷_};
 ghost use Prim.Native.Nat.{_+_, _<_, _≤_, min};
@@ -278,8 +278,8 @@ pub fn put_line(out: &mut [u8], at: usize, word: &[u8], numbers: &[u64]) -> Writ
 pub fn put_refusal(out: &mut [u8], at: usize, refusal: Refusal) -> Written
     ensures { λ r. ⌜ Puts (refusalText refusal) (now (out .entry)) at r (now (out .exit)) ⌝ }
 {
-    let number = refusal::number(refusal);
-    match refusal::place_of(refusal) {
+    let number = prelude::number(refusal);
+    match prelude::place_of(refusal) {
         Place::One(p) => {
             let numbers = [number, p];
             put_line(out, at, b"refused", &numbers)

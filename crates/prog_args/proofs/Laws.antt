@@ -10,10 +10,10 @@ use lib.Dec.{leb, ltb, eqb}
 use lib.ListN.{length, drop, getD, drop-of-length-le}
 use lib.Seq.{drop-cons, length-take-le}
 use Rattle.io.specs.Counts.{Counts}
-use Rattle.refusal.specs.Limits.{maxPosition}
-use Rattle.refusal.specs.Laws.Pick.{pick-true, pick-false}
-use Rattle.refusal.specs.Pick.{pick}
-use Rattle.refusal.specs.declared.Opt.the-variants.{None, Some}
+use Rattle.prelude.specs.Limits.{maxPosition}
+use Rattle.prelude.specs.Laws.Pick.{pick-true, pick-false}
+use Rattle.prelude.specs.Pick.{pick}
+use Rattle.prelude.specs.declared.Opt.the-variants.{None, Some}
 use Rattle.prog_args.specs.Number.{digitValue, numberFrom, spelledIn, isHex}
 
 -- ---- the value of a digit

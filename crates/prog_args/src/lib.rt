@@ -1,13 +1,13 @@
 // What the programs share: numbers on the command line, and what they print.
+use prelude::Opt;
+use prelude::Refusal;
 use print_text::Written;
-use refusal::Opt;
-use refusal::Refusal;
 ghost use mathlib.Core.Path.{_≡_};
 ghost use Prim.Native.Nat.{_+_, _*_, _≤_, min};
 ghost use lib.ListN.{length, drop};
 ghost use Rattle.io.specs.Counts.{Counts};
-ghost use Rattle.refusal.specs.Limits.{maxPosition};
-ghost use Rattle.refusal.specs.Refusals.{numberOf};
+ghost use Rattle.prelude.specs.Limits.{maxPosition};
+ghost use Rattle.prelude.specs.Refusals.{numberOf};
 ghost use Rattle.print_text.specs.Lines.{refusalText};
 ghost use Rattle.prog_args.specs.Number.{digitValue, baseOf, spelledIn, isHex, numberIn, Spelled};
 ghost use Rattle.prog_args.specs.Text.{lineRoom, Stands, Shows};
@@ -180,5 +180,5 @@ pub fn refuse(why: Refusal) -> u64
     ensures { λ r. ⌜ r ≡ numberOf why ⌝ }
 {
     print_refusal(why);
-    refusal::number(why)
+    prelude::number(why)
 }

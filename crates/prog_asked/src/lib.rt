@@ -1,5 +1,5 @@
 // What the words on a command line ask for: a choice as a byte, and the fill and the page size of the programs that lay out a file.
-use refusal::Opt;
+use prelude::Opt;
 ghost use mathlib.Core.Path.{_≡_};
 ghost use Prim.Native.Nat.{min};
 ghost use Rattle.prog_asked.specs.Asked.{AskedBy};

@@ -4,7 +4,7 @@
 //
 // A refusal is one line on standard output, `refused` with its number and place.
 use form_convert::Conversion;
-use refusal::Opt;
+use prelude::Opt;
 ghost use mathlib.Core.Path.{_≡_};
 ghost use Prim.Native.Nat.{_≤_};
 ghost use lib.ListN.{length, take};

@@ -3,8 +3,8 @@
 //     prog_map [FILL [PAGE]]    FILL is the fill's choice, 0 where it is not given; PAGE the page size in bits of a device with pages
 //
 // It writes nothing where an argument is no number, or where there are more.
+use prelude::Opt;
 use prog_asked::Asked;
-use refusal::Opt;
 ghost use lib.ListN.{take};
 ghost use Rattle.says.specs.Lines.{Shows};
 ghost use Rattle.says.specs.MapText.{MapText};

@@ -8,7 +8,7 @@
 // A file's image goes from the load address to the end of its last block, and no byte is shown that a file does not give. A refusal is one line, `refused` with
 // its number and place. Where a file was refused, one more says which, and one more the line at fault, from 0, if there is one; where a range was, one more
 // says which file does not give which address of it.
-use refusal::Opt;
+use prelude::Opt;
 ghost use lib.ListN.{take};
 ghost use Rattle.says.specs.Bench.{BenchSays};
 ghost use Rattle.says.specs.Lines.{Shows};

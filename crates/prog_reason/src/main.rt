@@ -4,9 +4,9 @@
 //
 // One line on standard output: `reason`, the reason (include/denkumari.h), 0 for a good file, the line, from 0, and the reason's two numbers. A file that is
 // longer than the longest is `refused 4 0`.
+use prelude::Opt;
+use prelude::Refusal;
 use prog_asked::choice;
-use refusal::Opt;
-use refusal::Refusal;
 ghost use Prim.Native.Nat.{_≤_};
 ghost use lib.ListN.{length, take};
 ghost use Rattle.prog_args.specs.Text.{lineRoom, Stands};

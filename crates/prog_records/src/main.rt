@@ -6,9 +6,9 @@
 // whole image with its fill. FILL is the fill's choice, and PAGE the page size in bits of a device with pages. It writes nothing where an argument is no
 // number or there are more or fewer. A refusal is one line on standard output, `refused` with its number and place, and a line `records` behind it
 // where the layout was accepted and its blocks were not written.
+use prelude::Opt;
 use print_records::Wanted;
 use prog_asked::choice;
-use refusal::Opt;
 ghost use Prim.Native.Nat.{_≤_};
 ghost use lib.ListN.{length, take};
 ghost use Rattle.print_records.specs.Steps.{textRoom};

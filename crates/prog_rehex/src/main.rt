@@ -4,8 +4,8 @@
 //
 // LOAD is the lowest address at which the file may give bytes. A refusal is one line on standard output, `refused` with its number and place, and where a
 // line of the file is at fault one more with its number, from 0.
+use prelude::Opt;
 use prog_asked::choice;
-use refusal::Opt;
 ghost use mathlib.Core.Path.{_≡_};
 ghost use Prim.Native.Nat.{_≤_};
 ghost use lib.ListN.{length, take};

@@ -8,18 +8,18 @@ use native.Mathlib.Omega.{arith}
 use borrow.Author.Tests.{ne-eqb}
 use lib.Dec.{eqb}
 use lib.ListN.{length}
-use Rattle.refusal.specs.Pick.{pick}
-use Rattle.refusal.specs.declared.Refusal.the-variants.{Malformed}
+use Rattle.prelude.specs.Pick.{pick}
+use Rattle.prelude.specs.declared.Refusal.the-variants.{Malformed}
 use Rattle.record_lines.specs.Items.{Item, gives, passes, ends, bad, asLine, Says}
 use Rattle.record_lines.specs.Pieces.{Piece}
 use Rattle.record_lines.specs.declared.Line.{Line}
-use Rattle.record_fault.specs.Reading.{newPieces, readText, faulty}
-use Rattle.record_fault.specs.Trail.{trail}
-use Rattle.record_fault.specs.Steps.{Stepped, Scanned, ScanIs, highest}
-use Rattle.record_fault.specs.Laws.TrailLaws.{moved, next-at, next-state, next-given, said}
-use Rattle.record_fault.specs.declared.Scan.{Scan}
-use Rattle.record_fault.specs.declared.Scan.the-variants.{Whole, Broken}
-use Rattle.record_fault.specs.declared.Step.{Step}
+use Rattle.record_scan.specs.Reading.{newPieces, readText, faulty}
+use Rattle.record_scan.specs.Trail.{trail}
+use Rattle.record_scan.specs.Steps.{Stepped, Scanned, ScanIs, highest}
+use Rattle.record_scan.specs.Laws.TrailLaws.{moved, next-at, next-state, next-given, said}
+use Rattle.record_scan.specs.declared.Scan.{Scan}
+use Rattle.record_scan.specs.declared.Scan.the-variants.{Whole, Broken}
+use Rattle.record_scan.specs.declared.Step.{Step}
 use Rattle.record_extent.specs.Extent.{lowestOf, extentOf}
 use Rattle.record_extent.specs.declared.Extent.{Extent}
 use Rattle.record_extent.specs.declared.Extent.the-variants.{Spans, Refused}

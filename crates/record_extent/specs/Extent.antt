@@ -3,11 +3,11 @@
 use mathlib.Core.List.{List, [], _∷_}
 use Prim.Native.Nat.{ℕ, min}
 use lib.Dec.{eqb}
-use Rattle.refusal.specs.Pick.{pick}
-use Rattle.refusal.specs.declared.Refusal.the-variants.{Malformed}
+use Rattle.prelude.specs.Pick.{pick}
+use Rattle.prelude.specs.declared.Refusal.the-variants.{Malformed}
 use Rattle.record_lines.specs.Pieces.{Piece}
-use Rattle.record_fault.specs.Reading.{Read, sound, faulty}
-use Rattle.record_fault.specs.Steps.{highest}
+use Rattle.record_scan.specs.Reading.{Read, sound, faulty}
+use Rattle.record_scan.specs.Steps.{highest}
 use Rattle.record_extent.specs.declared.Extent.{Extent}
 use Rattle.record_extent.specs.declared.Extent.the-variants.{Spans, Refused}
 

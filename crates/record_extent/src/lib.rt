@@ -1,14 +1,14 @@
 // Where the bytes of a file of records stand: the lowest address that it gives a byte to, and the first behind the highest.
-use record_fault::Scan;
-use refusal::Refusal;
+use prelude::Refusal;
+use record_scan::Scan;
 ghost use mathlib.Core.Path.{_≡_};
 ghost use Prim.Native.Nat.{min};
 ghost use lib.Dec.{eqb};
-ghost use Rattle.refusal.specs.Pick.{pick};
+ghost use Rattle.prelude.specs.Pick.{pick};
 ghost use Rattle.record_lines.specs.Spelling.{Spells};
-ghost use Rattle.record_fault.specs.Reading.{readText};
-ghost use Rattle.record_fault.specs.Trail.{trail};
-ghost use Rattle.record_fault.specs.Steps.{AllGood};
+ghost use Rattle.record_scan.specs.Reading.{readText};
+ghost use Rattle.record_scan.specs.Trail.{trail};
+ghost use Rattle.record_scan.specs.Steps.{AllGood};
 ghost use Rattle.record_extent.specs.Extent.{lowestOf, extentOf};
 
 // The lowest address and the first behind the highest, both 0 for a file that gives no byte; or why none is told.
@@ -27,7 +27,7 @@ fn lower(low: u64, address: u32, count: u8) -> u64
     if count == 0 {
         return low;
     }
-    refusal::lesser(low, address as u64)
+    prelude::lesser(low, address as u64)
 }
 
 // The lowest address that the first n lines give a byte to.
@@ -39,7 +39,7 @@ fn lowest(format: u8, text: &[u8], t: &[u8; 256], n: usize) -> u64
     let mut state = 0u16;
     let mut low = NOWHERE;
     for _ in 0..n {
-        let s = record_fault::known_line(format, text, t, at, state);
+        let s = record_scan::known_line(format, text, t, at, state);
         let line = s.line;
         low = lower(low, line.address, line.count);
         at = s.next;
@@ -54,7 +54,7 @@ pub fn extent_of(format: u8, text: &[u8], scratch: &mut [u8]) -> Extent
     ensures { λ r. ⌜ (r ≡ extentOf (readText format 0 (now (text .entry)))) × (now (scratch .exit) ≡ now (scratch .entry)) ⌝ }
 {
     let t = record_lines::digit_table();
-    let Scan::Whole(n, end, _, _) = record_fault::scan_lines(format, text, &t, 0, scratch) else {
+    let Scan::Whole(n, end, _, _) = record_scan::scan_lines(format, text, &t, 0, scratch) else {
         return Extent::Refused(Refusal::Malformed(0));
     };
     if end == 0 {

@@ -6,7 +6,7 @@ use mathlib.Core.List.{List, [], _∷_, _++_}
 use Prim.Native.Nat.{ℕ, _+_, _-_, _*_, _/_, _%_}
 use lib.Dec.{eqb}
 use lib.ListN.{length, drop, getD}
-use Rattle.refusal.specs.Pick.{pick}
+use Rattle.prelude.specs.Pick.{pick}
 use Rattle.record_lines.specs.Digits.{allDigits, bytesText, pairAt, bytesAt}
 use Rattle.record_lines.specs.Items.{Item, gives, passes, ends, bad, Format}
 use Rattle.record_lines.specs.Pieces.{Piece}

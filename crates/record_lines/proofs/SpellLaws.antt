@@ -9,8 +9,8 @@ use native.Mathlib.Decide.{ℕ-discrete, decLt}
 use lib.ListN.{length, drop, getD, set}
 use lib.Seq.{drop-cons, getD-set-same, getD-set-other}
 use borrow.Author.Tests.{le-ltb, eq-eqb, ne-eqb}
-use Rattle.refusal.specs.Pick.{pick}
-use Rattle.refusal.specs.Laws.Pick.{pick-true, pick-false}
+use Rattle.prelude.specs.Pick.{pick}
+use Rattle.prelude.specs.Laws.Pick.{pick-true, pick-false}
 use Rattle.record_lines.specs.Digits.{valueOf, allDigits, pairAt, bytesAt}
 use Rattle.record_lines.specs.Sums.{sumOf}
 use Rattle.record_lines.specs.Laws.Sums.{sum-list-more}

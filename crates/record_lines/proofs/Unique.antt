@@ -5,8 +5,8 @@ use borrow.Fn.Kinds.{Dens, resT, endedOf}
 use contract.Lifetimes.{Lfts}
 use denote.Triple.Clauses.{AtExit}
 use lib.ListN.{getD}
-use Rattle.refusal.specs.Laws.Outcome.{OneOutcome}
-use Rattle.refusal.specs.Laws.Pick.{determined}
+use Rattle.prelude.specs.Laws.Outcome.{OneOutcome}
+use Rattle.prelude.specs.Laws.Pick.{determined}
 use Rattle.record_lines.specs.Spelling.{Spells}
 use Rattle.record_lines.specs.declared.Cut.{Cut}
 use Rattle.record_lines.proofs.least.Kinds as least-kinds

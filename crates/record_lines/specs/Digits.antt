@@ -4,7 +4,7 @@ use mathlib.Core.List.{List, [], _∷_, _++_}
 use Prim.Native.Nat.{ℕ, _+_, _-_, _*_, _/_, _%_}
 use lib.Dec.{leb, ltb}
 use lib.ListN.{getD}
-use Rattle.refusal.specs.Pick.{pick}
+use Rattle.prelude.specs.Pick.{pick}
 use Rattle.bitvec.specs.Lists.{listOf}
 
 -- The letter of a number below 16, upper case: 0 to 9 from 48 on, A to F from 65 on.

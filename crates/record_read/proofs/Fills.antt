@@ -13,11 +13,11 @@ use Rattle.bitvec.specs.Laws.Lists.{length-listOf}
 use Rattle.record_lines.specs.Digits.{pairAt, bytesAt}
 use Rattle.record_lines.specs.Pieces.{Piece, piece}
 use Rattle.record_lines.specs.Laws.Sums.{list-one-more}
-use Rattle.record_fault.specs.Reading.{newPieces}
-use Rattle.record_fault.specs.Trail.{trail, lineAt}
-use Rattle.record_fault.specs.Laws.TrailLaws.{said, moved, next-at, next-state, next-given}
-use Rattle.record_fault.specs.Steps.{Stepped}
-use Rattle.record_fault.specs.declared.Step.{Step}
+use Rattle.record_scan.specs.Reading.{newPieces}
+use Rattle.record_scan.specs.Trail.{trail, lineAt}
+use Rattle.record_scan.specs.Laws.TrailLaws.{said, moved, next-at, next-state, next-given}
+use Rattle.record_scan.specs.Steps.{Stepped}
+use Rattle.record_scan.specs.declared.Step.{Step}
 use Rattle.record_read.specs.Given.{filled}
 use Rattle.record_read.specs.Theorems.GivenLaws.{filled-long, filled-is, filled-none, filled-append, filled-split}
 use Rattle.record_read.specs.Laws.GivenLaws.{byte-in, byte-before, byte-behind}

@@ -8,14 +8,14 @@ use native.Mathlib.Omega.{arith}
 use borrow.Author.Tests.{le-leb, lt-leb, lt-ltb, le-ltb, leb-true}
 use lib.Dec.{leb, ltb}
 use lib.ListN.{length}
-use Rattle.refusal.specs.Laws.Bools.{either}
+use Rattle.prelude.specs.Laws.Bools.{either}
 use Rattle.bitvec.specs.Lists.{listOf}
 use Rattle.record_lines.specs.Digits.{bytesAt}
 use Rattle.record_lines.specs.Items.{Item, gives, passes, ends, bad, asLine, itemOf, Says}
 use Rattle.record_lines.specs.Pieces.{Piece, piece}
 use Rattle.record_lines.specs.declared.Line.{Line}
-use Rattle.record_fault.specs.Reading.{newPieces, isNew}
-use Rattle.record_fault.specs.Steps.{highest}
+use Rattle.record_scan.specs.Reading.{newPieces, isNew}
+use Rattle.record_scan.specs.Steps.{highest}
 use Rattle.record_read.specs.Given.{given, filled}
 use Rattle.record_read.specs.Laws.GivenLaws.{given-append, byte-behind, byte-before}
 use Rattle.record_read.specs.Theorems.GivenLaws.{filled-is, filled-none}
@@ -57,7 +57,7 @@ above′ s f h (gives a [] t) e k = absurd (omega arith)
 above′ s f h (gives a (b ∷ l) t) e k =
     let none : leb (a + suc (length l)) 0 ≡ false = lt-leb (a + suc (length l)) 0 (omega arith) in
     let some : (leb h a && true) ≡ true = rw none at e in
-    either (leb h a) (λ p. leb-true h a p) (λ p. let z : _≡_ {A = Bool} false true = rw p at some in absurd (Rattle.refusal.specs.Laws.Bools.clash z refl))
+    either (leb h a) (λ p. leb-true h a p) (λ p. let z : _≡_ {A = Bool} false true = rw p at some in absurd (Rattle.prelude.specs.Laws.Bools.clash z refl))
 above′ s f h (passes t) e k = absurd (omega arith)
 above′ s f h ends e k = absurd (omega arith)
 above′ s f h bad e k = absurd (omega arith)

@@ -9,15 +9,15 @@ use native.Mathlib.Omega.{arith}
 use borrow.Author.Tests.{le-leb, lt-leb, lt-ltb, le-ltb}
 use lib.Dec.{leb, ltb}
 use lib.ListN.{length}
-use Rattle.refusal.specs.Laws.Bools.{either, both}
-use Rattle.refusal.specs.Pick.{pick}
+use Rattle.prelude.specs.Laws.Bools.{either, both}
+use Rattle.prelude.specs.Pick.{pick}
 use Rattle.blocks.specs.Put.{Put}
 use Rattle.record_lines.specs.Pieces.{Piece}
-use Rattle.record_fault.specs.Reading.{newPieces, isNew}
-use Rattle.record_fault.specs.Trail.{trail, itemAt}
-use Rattle.record_fault.specs.Laws.TrailLaws.{said, moved, next-at, next-state, next-given, high-append}
-use Rattle.record_fault.specs.Steps.{Stepped, highest, rises}
-use Rattle.record_fault.specs.declared.Step.{Step}
+use Rattle.record_scan.specs.Reading.{newPieces, isNew}
+use Rattle.record_scan.specs.Trail.{trail, itemAt}
+use Rattle.record_scan.specs.Laws.TrailLaws.{said, moved, next-at, next-state, next-given, high-append}
+use Rattle.record_scan.specs.Steps.{Stepped, highest, rises}
+use Rattle.record_scan.specs.declared.Step.{Step}
 use Rattle.record_read.specs.Given.{given}
 use Rattle.record_read.specs.Laws.BlockFacts.{none-above, all-below}
 use Rattle.record_read.specs.Runs.{isGiven, reach, inBits, runsGiven, blocksGiven}

@@ -4,7 +4,7 @@ use mathlib.Core.Bool.{Bool, false, _||_}
 use Prim.Native.Nat.{ℕ, _≤_, _<_, max}
 use native.Mathlib.Decide.{decLt}
 use native.Mathlib.Omega.{arith}
-use Rattle.refusal.specs.Laws.Bools.{or-left, or-right}
+use Rattle.prelude.specs.Laws.Bools.{or-left, or-right}
 use Rattle.record_read.specs.Steps.{run, inRun, Betters}
 use Rattle.record_read.specs.declared.Run.{Run}
 use Rattle.record_read.proofs.Loops.{in-run, before-run, behind-run}

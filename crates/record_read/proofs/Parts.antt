@@ -8,17 +8,17 @@ use native.Mathlib.Omega.{arith}
 use borrow.Author.Tests.{le-leb, lt-leb, lt-ltb, le-ltb, leb-true, eq-eqb, ne-eqb}
 use lib.Dec.{leb, ltb, eqb}
 use lib.ListN.{length, length-append, length-map}
-use Rattle.refusal.specs.Laws.Bools.{either, both, clash}
-use Rattle.refusal.specs.Pick.{pick}
+use Rattle.prelude.specs.Laws.Bools.{either, both, clash}
+use Rattle.prelude.specs.Pick.{pick}
 use Rattle.blocks.specs.declared.Block.{Block}
 use Rattle.blocks.specs.Walk.{block}
 use Rattle.record_lines.specs.Items.{Item, gives, passes, ends, bad}
 use Rattle.record_lines.specs.Pieces.{Piece, piece, endOf}
-use Rattle.record_fault.specs.Reading.{newPieces, isNew}
-use Rattle.record_fault.specs.Sound.{Fine, none, more}
-use Rattle.record_fault.specs.Trail.{trail, itemAt}
-use Rattle.record_fault.specs.Laws.TrailLaws.{high-append, last-append, parts-append}
-use Rattle.record_fault.specs.Steps.{highest, rises, lastEnd, partsOf, nowhere}
+use Rattle.record_scan.specs.Reading.{newPieces, isNew}
+use Rattle.record_scan.specs.Sound.{Fine, none, more}
+use Rattle.record_scan.specs.Trail.{trail, itemAt}
+use Rattle.record_scan.specs.Laws.TrailLaws.{high-append, last-append, parts-append}
+use Rattle.record_scan.specs.Steps.{highest, rises, lastEnd, partsOf, nowhere}
 use Rattle.record_read.specs.Given.{given, holds}
 use Rattle.record_read.specs.Laws.BlockFacts.{none-above, all-below}
 use Rattle.record_read.specs.Laws.GivenLaws.{given-append}

@@ -6,7 +6,7 @@ use Prim.Native.Nat.{ℕ, _-_, _≤_, _<_}
 use borrow.Author.Tests.{le-leb, lt-leb}
 use lib.Dec.{leb}
 use lib.ListN.{length, length-map}
-use Rattle.refusal.specs.declared.Refusal.the-variants.{Malformed, TooShort}
+use Rattle.prelude.specs.declared.Refusal.the-variants.{Malformed, TooShort}
 use Rattle.blocks.specs.declared.Block.{Block}
 use Rattle.blocks.specs.declared.Blocks.{Blocks}
 use Rattle.blocks.specs.declared.Blocks.the-variants.{Found, Refused}
@@ -14,13 +14,13 @@ use Rattle.blocks.specs.Outcome.{origins, sizes, over}
 use Rattle.blocks.specs.Put.{Put}
 use Rattle.blocks.specs.Laws.Room.{sets-over}
 use Rattle.record_lines.specs.Pieces.{Piece}
-use Rattle.record_fault.specs.Reading.{Read, sound, faulty, readText}
-use Rattle.record_fault.specs.Trail.{trail}
-use Rattle.record_fault.specs.Steps.{AllGood, rises, Scanned, ScanIs}
-use Rattle.record_fault.specs.Sound.{Fine}
-use Rattle.record_fault.specs.Theorems.Sound.{sound-pieces-fine}
-use Rattle.record_fault.specs.declared.Scan.{Scan}
-use Rattle.record_fault.specs.declared.Scan.the-variants.{Whole, Broken}
+use Rattle.record_scan.specs.Reading.{Read, sound, faulty, readText}
+use Rattle.record_scan.specs.Trail.{trail}
+use Rattle.record_scan.specs.Steps.{AllGood, rises, Scanned, ScanIs}
+use Rattle.record_scan.specs.Sound.{Fine}
+use Rattle.record_scan.specs.Theorems.Sound.{sound-pieces-fine}
+use Rattle.record_scan.specs.declared.Scan.{Scan}
+use Rattle.record_scan.specs.declared.Scan.the-variants.{Whole, Broken}
 use Rattle.record_read.specs.Given.{filled}
 use Rattle.record_read.specs.Runs.{reach, blocksGiven}
 use Rattle.record_read.specs.Outcome.{Lent, lent, Reads}

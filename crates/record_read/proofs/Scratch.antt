@@ -10,8 +10,8 @@ use native.Mathlib.Omega.{arith}
 use borrow.Author.Tests.{le-leb, lt-leb, lt-ltb, eq-eqb, ne-eqb}
 use lib.Dec.{leb, eqb}
 use lib.ListN.{length, getD, replicate}
-use Rattle.refusal.specs.Laws.Bools.{either, clash}
-use Rattle.refusal.specs.Pick.{pick}
+use Rattle.prelude.specs.Laws.Bools.{either, clash}
+use Rattle.prelude.specs.Pick.{pick}
 use Rattle.bitvec.specs.Bits.{bitAt}
 use Rattle.bitvec.specs.Clear.{cleared}
 use Rattle.bitvec.specs.Numeral.{numeral, bitOf}
@@ -19,11 +19,11 @@ use Rattle.bitvec.specs.Laws.Bits.{bitAt-lt}
 use Rattle.bitvec.specs.Laws.Numeral.{bitOf-numeral}
 use Rattle.blocks.specs.Put.{Put}
 use Rattle.record_lines.specs.Pieces.{Piece, endOf}
-use Rattle.record_fault.specs.Reading.{isNew}
-use Rattle.record_fault.specs.Trail.{trail}
-use Rattle.record_fault.specs.Once.{isFree, Once}
-use Rattle.record_fault.specs.Windows.{Windowed}
-use Rattle.record_fault.specs.declared.Window.{Window}
+use Rattle.record_scan.specs.Reading.{isNew}
+use Rattle.record_scan.specs.Trail.{trail}
+use Rattle.record_scan.specs.Once.{isFree, Once}
+use Rattle.record_scan.specs.Windows.{Windowed}
+use Rattle.record_scan.specs.declared.Window.{Window}
 use Rattle.record_read.specs.Given.{given, holds}
 use Rattle.record_read.specs.Laws.ByteFacts.{new-outside}
 use Rattle.record_read.specs.Runs.{isGiven, inBits}

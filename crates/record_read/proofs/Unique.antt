@@ -1,6 +1,6 @@
 -- Uniqueness over the public function's own contract: the answer, and all that is lent afterwards.
-use Rattle.refusal.specs.Laws.Outcome.{OneView}
-use Rattle.refusal.specs.Laws.Pick.{determined, paired}
+use Rattle.prelude.specs.Laws.Outcome.{OneView}
+use Rattle.prelude.specs.Laws.Pick.{determined, paired}
 use Rattle.blocks.specs.declared.Blocks.{Blocks}
 use Rattle.record_read.specs.Outcome.{Lent, lent}
 use Rattle.record_read.proofs.read.Kinds as read-kinds

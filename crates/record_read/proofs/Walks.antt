@@ -8,8 +8,8 @@ use native.Mathlib.Omega.{arith}
 use borrow.Author.Tests.{lt-ltb, le-ltb, eq-eqb, ne-eqb}
 use lib.Dec.{ltb, eqb}
 use lib.ListN.{length, length-append, length-map}
-use Rattle.refusal.specs.Laws.Bools.{either}
-use Rattle.refusal.specs.Pick.{pick}
+use Rattle.prelude.specs.Laws.Bools.{either}
+use Rattle.prelude.specs.Pick.{pick}
 use Rattle.blocks.specs.declared.Block.{Block}
 use Rattle.blocks.specs.Walk.{block, kept}
 use Rattle.blocks.specs.Laws.Put.{kept-some as block-kept, kept-none as block-none, put-nothing, put-then, put-long}

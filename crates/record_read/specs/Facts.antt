@@ -2,7 +2,7 @@
 use mathlib.Core.Path.{_≡_}
 use mathlib.Core.List.{List}
 use Rattle.record_lines.specs.Pieces.{Piece}
-use Rattle.record_fault.specs.Reading.{Read, sound}
+use Rattle.record_scan.specs.Reading.{Read, sound}
 
 -- ---- which answer when
 

@@ -4,11 +4,11 @@ use mathlib.Core.Bool.{Bool}
 use mathlib.Core.List.{List, [], _∷_, map}
 use Prim.Native.Nat.{ℕ, zero, suc, _+_, _-_, _*_}
 use lib.Dec.{eqb}
-use Rattle.refusal.specs.Pick.{pick}
+use Rattle.prelude.specs.Pick.{pick}
 use Rattle.blocks.specs.declared.Block.{Block}
 use Rattle.blocks.specs.Walk.{block}
 use Rattle.record_lines.specs.Pieces.{Piece}
-use Rattle.record_fault.specs.Steps.{highest}
+use Rattle.record_scan.specs.Steps.{highest}
 use Rattle.record_read.specs.Given.{given}
 
 -- A byte in front of runs of bytes that stand behind it: it joins the first of them if that touches it, and is a run of its own otherwise.

@@ -5,15 +5,15 @@ use mathlib.Core.List.{List, [], map}
 use Prim.Native.Nat.{ℕ, _+_, _-_, _*_, _≤_, _<_}
 use lib.Dec.{leb, ltb, eqb}
 use lib.ListN.{length}
-use Rattle.refusal.specs.Pick.{pick}
+use Rattle.prelude.specs.Pick.{pick}
 use Rattle.bitvec.specs.Bits.{bitAt}
 use Rattle.bitvec.specs.Clear.{cleared}
 use Rattle.blocks.specs.declared.Block.{Block}
 use Rattle.blocks.specs.Put.{Put}
 use Rattle.blocks.specs.Walk.{block, kept}
-use Rattle.record_fault.specs.Steps.{highest}
-use Rattle.record_fault.specs.Trail.{trail}
-use Rattle.record_fault.specs.Once.{Once}
+use Rattle.record_scan.specs.Steps.{highest}
+use Rattle.record_scan.specs.Trail.{trail}
+use Rattle.record_scan.specs.Once.{Once}
 use Rattle.record_read.specs.RunLaws.{Clear, Holds, AreRuns}
 use Rattle.record_read.specs.Runs.{reach, inBits}
 use Rattle.record_read.specs.declared.Run.{Run}

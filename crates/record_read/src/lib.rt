@@ -1,22 +1,22 @@
 // A file of records, read into lent bytes and blocks. Document 02, Tickets 1 and 12: "It fills lent bytes and blocks, counted from that address."
 use blocks::Blocks;
-use record_fault::Scan;
-use refusal::Refusal;
+use prelude::Refusal;
+use record_scan::Scan;
 ghost use mathlib.Core.Path.{_≡_};
 ghost use mathlib.Core.Bool.{true};
 ghost use mathlib.Core.List.{[], _∷_, map};
 ghost use Prim.Native.Nat.{_+_, _-_, _*_, _/_, _≤_, _<_};
 ghost use lib.Dec.{ltb, eqb};
 ghost use lib.ListN.{length};
-ghost use Rattle.refusal.specs.Pick.{pick};
+ghost use Rattle.prelude.specs.Pick.{pick};
 ghost use Rattle.bitvec.specs.Numeral.{bitOf};
 ghost use Rattle.blocks.specs.Put.{Put};
 ghost use Rattle.record_lines.specs.Digits.{bytesAt};
 ghost use Rattle.record_lines.specs.Pieces.{piece};
 ghost use Rattle.record_lines.specs.Spelling.{Spells};
-ghost use Rattle.record_fault.specs.Reading.{readText, sound};
-ghost use Rattle.record_fault.specs.Trail.{trail};
-ghost use Rattle.record_fault.specs.Steps.{AllGood, rises};
+ghost use Rattle.record_scan.specs.Reading.{readText, sound};
+ghost use Rattle.record_scan.specs.Trail.{trail};
+ghost use Rattle.record_scan.specs.Steps.{AllGood, rises};
 ghost use Rattle.record_read.specs.Given.{filled};
 ghost use Rattle.record_read.specs.Runs.{isGiven, reach, inBits, blocksGiven};
 ghost use Rattle.record_read.specs.Outcome.{lent, Reads};
@@ -119,7 +119,7 @@ impl Run {
     fn better(self, next: Run, from: u64) -> Run
         ensures { λ r. ⌜ Betters from self next r ⌝ }
     {
-        let first = refusal::greater(next.first, from);
+        let first = prelude::greater(next.first, from);
         let end = next.end;
         if end <= first {
             return self;
@@ -165,7 +165,7 @@ fn lowest(format: u8, text: &[u8], t: &[u8; 256], n: usize, load: u32, from: u64
     let mut state = 0u16;
     let mut best = Run { first: 0, end: 0 };
     for _ in 0..n {
-        let s = record_fault::known_line(format, text, t, at, state);
+        let s = record_scan::known_line(format, text, t, at, state);
         let line = s.line;
         best = best.better(extent(line.address, line.count, load), from);
         at = s.next;
@@ -297,7 +297,7 @@ fn walk_scratch(
         count: 0,
     };
     while from < end {
-        let window = record_fault::mark_window(format, text, t, n, load as u64 + from, scratch);
+        let window = record_scan::mark_window(format, text, t, n, load as u64 + from, scratch);
         walk = walk_window(scratch, from, walk, offsets, sizes);
         bitvec::clear(scratch);
         from = above(window.next, load);
@@ -321,7 +321,7 @@ fn by_scratch(ascend: bool, parts: u64, scratch: &[u8]) -> bool
     if scratch.len() > SCRATCH {
         return false;
     }
-    record_fault::all_zero(scratch)
+    record_scan::all_zero(scratch)
 }
 
 // The blocks of a file whose records stand in any order.
@@ -399,7 +399,7 @@ fn fill(format: u8, text: &[u8], t: &[u8; 256], n: usize, load: u32, bytes: &mut
     let mut at = 0usize;
     let mut state = 0u16;
     for _ in 0..n {
-        let s = record_fault::known_line(format, text, t, at, state);
+        let s = record_scan::known_line(format, text, t, at, state);
         let line = s.line;
         let stop = s.stop;
         fill_line(
@@ -438,7 +438,7 @@ fn store_up(
     let mut run = Run { first: 0, end: 0 };
     let mut count = 0usize;
     for _ in 0..n {
-        let s = record_fault::known_line(format, text, t, at, state);
+        let s = record_scan::known_line(format, text, t, at, state);
         let line = s.line;
         let stop = s.stop;
         fill_line(
@@ -615,7 +615,7 @@ pub fn read(
         (lent (now (bytes .exit)) (now (offsets .exit)) (now (sizes .exit)) (now (scratch .exit))) ⌝ }
 {
     let t = record_lines::digit_table();
-    let Scan::Whole(n, high, ascend, parts) = record_fault::scan_lines(
+    let Scan::Whole(n, high, ascend, parts) = record_scan::scan_lines(
         format,
         text,
         &t,

@@ -9,20 +9,20 @@ use native.Mathlib.Omega.{arith}
 use lib.Dec.{eqb}
 use lib.ListN.{length, drop}
 use borrow.Author.Tests.{ne-eqb}
-use Rattle.refusal.specs.Laws.Bools.{unlike}
-use Rattle.refusal.specs.Pick.{pick}
+use Rattle.prelude.specs.Laws.Bools.{unlike}
+use Rattle.prelude.specs.Pick.{pick}
 use Rattle.record_lines.specs.Items.{Item, gives, passes, ends, bad, asLine, Says}
 use Rattle.record_lines.specs.Lines.{linesOf, firstLine, taken}
 use Rattle.record_lines.specs.Pieces.{Piece}
 use Rattle.record_lines.specs.declared.Line.{Line}
-use Rattle.record_fault.specs.Reading.{formatBy, Read, sound, faulty, newPieces, stateAfter, isNew}
-use Rattle.record_fault.specs.Trail.{trail, lineAt, itemAt, nextOf}
-use Rattle.record_fault.specs.Steps.{Stepped}
-use Rattle.record_fault.specs.Laws.Steps.{leavesOf, leaves-new}
-use Rattle.record_fault.specs.Laws.TrailLaws.{lines-at, lines-past, moved, next-at, next-state, says-state}
-use Rattle.record_fault.specs.declared.Step.{Step}
-use Rattle.record_fault.specs.declared.Fault.the-variants.{Good, At}
-use Rattle.record_fault.specs.Outcome.{faultOf}
+use Rattle.record_scan.specs.Reading.{formatBy, Read, sound, faulty, newPieces, stateAfter, isNew}
+use Rattle.record_scan.specs.Trail.{trail, lineAt, itemAt, nextOf}
+use Rattle.record_scan.specs.Steps.{Stepped}
+use Rattle.record_scan.specs.Laws.Steps.{leavesOf, leaves-new}
+use Rattle.record_scan.specs.Laws.TrailLaws.{lines-at, lines-past, moved, next-at, next-state, says-state}
+use Rattle.record_scan.specs.declared.Step.{Step}
+use Rattle.record_scan.specs.declared.Fault.the-variants.{Good, At}
+use Rattle.record_scan.specs.Outcome.{faultOf}
 use Rattle.record_reason.specs.Spelling.{nothing}
 use Rattle.record_reason.specs.Reasons.{itemOf, isEnd, endsBefore, giver, addressIn, lower, lowestFrom, lowest, causeAt, toldOf, whyOf, Placed}
 

@@ -5,12 +5,12 @@ use mathlib.Core.List.{List, [], _∷_}
 use Prim.Native.Nat.{ℕ, zero, suc, _+_, _-_, _≤_, max, min}
 use lib.Dec.{ltb, leb, eqb}
 use lib.ListN.{length}
-use Rattle.refusal.specs.Pick.{pick}
+use Rattle.prelude.specs.Pick.{pick}
 use Rattle.record_lines.specs.Items.{Item, gives, passes, ends, bad, Format}
 use Rattle.record_lines.specs.Lines.{linesOf}
 use Rattle.record_lines.specs.Pieces.{Piece}
-use Rattle.record_fault.specs.Reading.{formatBy, Read, sound, faulty, newPieces, stateAfter, isNew}
-use Rattle.record_fault.specs.Trail.{trail, lineAt, itemAt}
+use Rattle.record_scan.specs.Reading.{formatBy, Read, sound, faulty, newPieces, stateAfter, isNew}
+use Rattle.record_scan.specs.Trail.{trail, lineAt, itemAt}
 use Rattle.record_reason.specs.Spelling.{causeOf, orElse, ownCause, startBy, manyBy, topBy}
 use Rattle.record_reason.specs.declared.Cause.{Cause}
 use Rattle.record_reason.specs.declared.Why.{Why}

@@ -5,7 +5,7 @@ use mathlib.Core.List.{List, [], _∷_}
 use Prim.Native.Nat.{ℕ, suc, _+_, _-_, _*_, _%_}
 use lib.Dec.{ltb, leb, eqb}
 use lib.ListN.{length, getD, drop}
-use Rattle.refusal.specs.Pick.{pick}
+use Rattle.prelude.specs.Pick.{pick}
 use Rattle.record_lines.specs.Digits.{isDigit, allDigits, pairAt, bytesAt}
 use Rattle.record_lines.specs.Sums.{sumOf}
 use Rattle.record_ihex_line.specs.Format.{wordAt}

@@ -1,13 +1,13 @@
 // Why a file of records is bad: the line at fault, a reason, and two numbers that go with it.
 mod spelling;
 
-use record_fault::Fault;
+use record_scan::Fault;
 ghost use mathlib.Core.Path.{_≡_};
 ghost use Prim.Native.Nat.{_+_, _<_, min};
 ghost use lib.Dec.{eqb};
-ghost use Rattle.refusal.specs.Pick.{pick};
+ghost use Rattle.prelude.specs.Pick.{pick};
 ghost use Rattle.record_lines.specs.Spelling.{Spells};
-ghost use Rattle.record_fault.specs.Reading.{readText};
+ghost use Rattle.record_scan.specs.Reading.{readText};
 ghost use Rattle.record_reason.specs.Spelling.{causeOf};
 ghost use Rattle.record_reason.specs.Reasons.{itemOf, addressIn, giver, lowest, spanCause, lineCause, causeAt, whyOf, Placed};
 
@@ -86,7 +86,7 @@ fn place_of(format: u8, text: &[u8], t: &[u8; 256], n: u64) -> Place
     let mut state = 0u16;
     let mut ended = false;
     for _ in 0..n {
-        let s = record_fault::search_line(format, text, t, at, state);
+        let s = record_scan::search_line(format, text, t, at, state);
         let line = s.line;
         ended = is_end(line.kind);
         at = s.next;
@@ -118,12 +118,12 @@ fn first_giver(format: u8, text: &[u8], t: &[u8; 256], n: u64, first: u64, end: 
     let mut state = 0u16;
     let mut found = 0u64;
     for k in 0..n {
-        let s = record_fault::search_line(format, text, t, at, state);
+        let s = record_scan::search_line(format, text, t, at, state);
         let line = s.line;
         found = next_giver(
             found,
             k,
-            record_fault::leaves(line.kind, line.address, line.count, first, end),
+            record_scan::leaves(line.kind, line.address, line.count, first, end),
         );
         at = s.next;
         state = line.state;
@@ -137,7 +137,7 @@ fn address_at(format: u8, text: &[u8], t: &[u8; 256], n: u64) -> u32
     ensures { λ r. ⌜ r ≡ addressIn (itemOf format (now (text .entry)) n) ⌝ }
 {
     let p = place_of(format, text, t, n);
-    let s = record_fault::search_line(format, text, t, p.at, p.state);
+    let s = record_scan::search_line(format, text, t, p.at, p.state);
     let line = s.line;
     line.address
 }
@@ -165,7 +165,7 @@ fn lowest_of(format: u8, text: &[u8], t: &[u8; 256]) -> u64
     let mut state = 0u16;
     let mut low = 4_294_967_296u64;
     while at < text.len() {
-        let s = record_fault::search_line(format, text, t, at, state);
+        let s = record_scan::search_line(format, text, t, at, state);
         let line = s.line;
         low = lower_of(line.kind, line.address, line.count, low);
         at = s.next;
@@ -200,7 +200,7 @@ fn span_cause(
     made(
         TWICE,
         first,
-        refusal::greater(start, address_at(format, text, t, first) as u64),
+        prelude::greater(start, address_at(format, text, t, first) as u64),
     )
 }
 
@@ -249,7 +249,7 @@ fn cause_at(format: u8, text: &[u8], t: &[u8; 256], load: u32, n: u64) -> Cause
         return made(NO_END, 0, 0);
     }
     let state = p.state;
-    let s = record_fault::search_line(format, text, t, at, state);
+    let s = record_scan::search_line(format, text, t, at, state);
     let stop = s.stop;
     line_cause(format, text, t, load, n, state, &text[at..stop])
 }
@@ -258,7 +258,7 @@ fn cause_at(format: u8, text: &[u8], t: &[u8; 256], load: u32, n: u64) -> Cause
 pub fn reason_of(format: u8, text: &[u8], load: u32, scratch: &mut [u8]) -> Why
     ensures { λ r. ⌜ (r ≡ whyOf format load (now (text .entry)) (readText format load (now (text .entry)))) × (now (scratch .exit) ≡ now (scratch .entry)) ⌝ }
 {
-    match record_fault::line_at_fault(format, text, load, scratch) {
+    match record_scan::line_at_fault(format, text, load, scratch) {
         Fault::Good => Why {
             reason: 0,
             line: 0,

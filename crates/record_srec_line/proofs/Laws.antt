@@ -10,7 +10,7 @@ use lib.ListN.{length, getD, drop}
 use borrow.Author.Tests.{lt-ltb, le-ltb, le-leb, lt-leb, eq-eqb, ne-eqb}
 use Rattle.bitvec.specs.Lists.{listOf}
 use Rattle.record_lines.specs.Digits.{allDigits, pairAt, bytesAt}
-use Rattle.refusal.specs.Pick.{pick}
+use Rattle.prelude.specs.Pick.{pick}
 use Rattle.record_lines.specs.Items.{gives, passes, ends, bad, Says}
 use Rattle.record_lines.specs.Laws.Items.{as-gives}
 use Rattle.record_lines.specs.Spelling.{checkedSum}

@@ -2,8 +2,8 @@
 -- what the check reads off a function's `ensures`, so that a looser clause breaks its line here.
 use mathlib.Core.Bool.{true}
 use mathlib.Core.Path.{_≡_}
-use Rattle.refusal.specs.Laws.Pick.{determined}
-use Rattle.refusal.specs.Laws.Outcome.{OneOutcome}
+use Rattle.prelude.specs.Laws.Pick.{determined}
+use Rattle.prelude.specs.Laws.Outcome.{OneOutcome}
 use Rattle.record_lines.specs.Spelling.{Spells}
 use Rattle.record_srec_line.specs.Srec.{isSound}
 use Rattle.record_srec_line.proofs.known_line.Kinds as known-line-kinds

@@ -9,7 +9,7 @@ use borrow.Author.Tests.{eq-eqb, ne-eqb, eqb-true, eqb-false}
 use lib.Dec.{eqb}
 use lib.ListN.{length, set, take, drop, length-append, length-set, length-take, length-drop}
 use lib.Seq.{sets, take-all}
-use Rattle.refusal.specs.Laws.Bools.{either}
+use Rattle.prelude.specs.Laws.Bools.{either}
 use Rattle.record_lines.specs.Digits.{letterOf, byteText, bytesText}
 use Rattle.record_lines.specs.Laws.DigitLaws.{length-bytesText, bytesText-append}
 use Rattle.record_lines.specs.Pieces.{piece}

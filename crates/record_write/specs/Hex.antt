@@ -5,7 +5,7 @@ use mathlib.Core.List.{List}
 use Prim.Native.Nat.{ℕ}
 use lib.Dec.{leb, eqb}
 use lib.ListN.{length}
-use Rattle.refusal.specs.Told.{Told}
+use Rattle.prelude.specs.Told.{Told}
 use Rattle.record_write.specs.declared.Written.{Written}
 use Rattle.record_write.specs.Checks.{allPlaced}
 use Rattle.record_write.specs.Cut.{blocksIn}

@@ -6,9 +6,9 @@ use mathlib.Core.List.{List, _++_}
 use Prim.Native.Nat.{ℕ}
 use lib.Dec.{leb, eqb}
 use lib.ListN.{length, drop}
-use Rattle.refusal.specs.Pick.{pick}
-use Rattle.refusal.specs.Told.{Told}
-use Rattle.refusal.specs.declared.Refusal.the-variants.{Malformed, TooShort, BadPart}
+use Rattle.prelude.specs.Pick.{pick}
+use Rattle.prelude.specs.Told.{Told}
+use Rattle.prelude.specs.declared.Refusal.the-variants.{Malformed, TooShort, BadPart}
 use Rattle.blocks.specs.declared.Block.{Block}
 use Rattle.record_write.specs.declared.Written.{Written}
 use Rattle.record_write.specs.declared.Written.the-variants.{Length, Refused}

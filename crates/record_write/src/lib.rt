@@ -1,8 +1,8 @@
 // The blocks of an image, written as a file of records into a lent text. Document 02, Tickets 1 and 12: what the formats share.
 mod line;
 
-use refusal::Refusal;
-use refusal::Verdict;
+use prelude::Refusal;
+use prelude::Verdict;
 ghost use mathlib.Core.Path.{_≡_};
 ghost use mathlib.Core.Bool.{true};
 ghost use Prim.Native.Nat.{_+_, _-_, _*_, _/_, _≤_, _<_};

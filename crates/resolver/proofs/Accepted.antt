@@ -1,13 +1,13 @@
 -- What a layout comes to by its two checks.
 use mathlib.Core.Path.{_≡_, sym, subst, _∙_}
 use mathlib.Core.List.{[]}
-use Rattle.refusal.specs.declared.Refusal.{Refusal}
-use Rattle.refusal.specs.declared.Verdict.{Verdict}
-use Rattle.refusal.specs.declared.Verdict.the-variants.{Accepted, Refused}
+use Rattle.prelude.specs.declared.Refusal.{Refusal}
+use Rattle.prelude.specs.declared.Verdict.{Verdict}
+use Rattle.prelude.specs.declared.Verdict.the-variants.{Accepted, Refused}
 use Rattle.bankdef.specs.Check.{checkOf}
 use Rattle.bankdef.specs.declared.Bankdefs.{Bankdefs}
 use Rattle.resolver.specs.Layout.{layoutOf}
-use Rattle.lists.specs.Lists.{Lists, lists, listsOf}
+use Rattle.nodes.specs.Lists.{Lists, lists, listsOf}
 use Rattle.resolver.specs.Passes.{resolutionOf}
 use Rattle.resolver.specs.Figures.{Figures}
 use Rattle.resolver.specs.Theorems.RefusedExactly.{layout-figures}

@@ -11,13 +11,13 @@ use lib.ListN.{take, drop, length}
 use lib.Seq.{take-all}
 use borrow.Author.Tests.{ne-eqb}
 use Rattle.bankdef.specs.declared.Bankdefs.{Bankdefs}
-use Rattle.lists.specs.Lists.{Row, Lists, lists, rowWith, rowOf}
+use Rattle.nodes.specs.Lists.{Row, Lists, lists, rowWith, rowOf}
 use Rattle.resolver.specs.Once.{programWith, passOf}
 use Rattle.resolver.specs.Laws.Least.{or-past}
 use Rattle.resolver.specs.OneWalk.{inDoubt}
 use Rattle.resolver.specs.Passes.{HasRow, rowAgainst, passOver, passAt}
 use Rattle.resolver.specs.Theorems.OneWalk.{told-alone}
-use Rattle.lists.specs.Laws.RowParts.{row-ends, first-part, row-part}
+use Rattle.nodes.specs.Laws.RowParts.{row-ends, first-part, row-part}
 use Rattle.resolver.specs.Switches.{Ready}
 use Rattle.resolver.specs.declared.Pass.{Pass}
 

@@ -6,7 +6,7 @@ use mathlib.Core.Logic.{⊎-elim}
 use native.Mathlib.Nat.{eq-or-lt-of-le}
 use native.Mathlib.Omega.{arith}
 use borrow.Author.Tests.{eq-eqb, ne-eqb, lt-ltb, le-ltb}
-use Rattle.refusal.specs.declared.Refusal.{Refusal}
+use Rattle.prelude.specs.declared.Refusal.{Refusal}
 use Rattle.resolver.specs.Passes.{passK, lastOf, settledBy}
 use Rattle.resolver.specs.Ends.{Unsettled}
 use Rattle.resolver.specs.Laws.Ends.{settles, unsettled-below, K-at}

@@ -1,7 +1,7 @@
 -- Uniqueness: each public function's own contract has one outcome. What is read here is the `ensures` itself, so that a looser clause breaks its
 -- line. Nothing is lent to be changed, so the outcome is the answer.
-use Rattle.refusal.specs.Laws.Pick.{determined}
-use Rattle.refusal.specs.Laws.Outcome.{OneOutcome}
+use Rattle.prelude.specs.Laws.Pick.{determined}
+use Rattle.prelude.specs.Laws.Outcome.{OneOutcome}
 use Rattle.resolver.proofs.once.bank_record.Kinds as bank-record-kinds
 use Rattle.resolver.proofs.once.bank_record.Reads as bank-record-reads
 use Rattle.resolver.proofs.passes.resolve.Kinds as resolve-kinds

@@ -5,11 +5,11 @@ use mathlib.Core.Bool.{false}
 use mathlib.Core.List.{[], _∷_}
 use lib.IntN.{pos}
 use lib.ListN.{replicate}
-use Rattle.refusal.specs.declared.Opt.the-variants.{None}
+use Rattle.prelude.specs.declared.Opt.the-variants.{None}
 use Rattle.bankdef.specs.Check.{noBank}
 use Rattle.bankdef.specs.declared.Bankdefs.{Bankdefs}
 use Rattle.resolver.specs.Layout.{byDefault, layoutOf}
-use Rattle.lists.specs.Lists.{lists}
+use Rattle.nodes.specs.Lists.{lists}
 use Rattle.resolver.specs.declared.Settled.the-variants.{At}
 use Rattle.resolver.specs.declared.Resolution.{Resolution}
 

@@ -4,17 +4,17 @@ use mathlib.Core.Path.{_≡_}
 use mathlib.Core.Bool.{Bool, true}
 use mathlib.Core.Logic.{_↔_}
 use lib.ListN.{length}
-use Rattle.refusal.specs.Told.{gives, refuses, toldRefusal}
-use Rattle.refusal.specs.declared.Place.{Place}
-use Rattle.refusal.specs.declared.Place.the-variants.{One}
-use Rattle.refusal.specs.declared.Refusal.{Refusal}
-use Rattle.refusal.specs.declared.Refusal.the-variants.{Malformed}
-use Rattle.refusal.specs.declared.Verdict.the-variants.{Accepted, Refused as TurnedAway}
+use Rattle.prelude.specs.Told.{gives, refuses, toldRefusal}
+use Rattle.prelude.specs.declared.Place.{Place}
+use Rattle.prelude.specs.declared.Place.the-variants.{One}
+use Rattle.prelude.specs.declared.Refusal.{Refusal}
+use Rattle.prelude.specs.declared.Refusal.the-variants.{Malformed}
+use Rattle.prelude.specs.declared.Verdict.the-variants.{Accepted, Refused as TurnedAway}
 use Rattle.bankdef.specs.Check.{checkOf}
 use Rattle.bankdef.specs.declared.Bankdefs.{Bankdefs}
 use Rattle.resolver.specs.Ends.{Runs, RunsLast}
 use Rattle.resolver.specs.Layout.{Checked}
-use Rattle.lists.specs.Lists.{Lists, listsOf}
+use Rattle.nodes.specs.Lists.{Lists, listsOf}
 use Rattle.resolver.specs.NodeOrder.{defAt, OffBoundary, GoesPast}
 use Rattle.resolver.specs.Once.{walkTo}
 use Rattle.resolver.specs.PassStates.{nodeIn}

@@ -3,7 +3,7 @@
 -- `addr` of state 0 there.
 use Prim.Native.Nat.{ℕ}
 use Rattle.iter.specs.Step.{bankAfter}
-use Rattle.lists.specs.Lists.{Row}
+use Rattle.nodes.specs.Lists.{Row}
 use Rattle.resolver.specs.Once.{Program, node, walkTo}
 
 -- ---- the pass

@@ -2,7 +2,7 @@
 -- last pass reads.
 use Rattle.bankdef.specs.declared.Bankdefs.{Bankdefs}
 use Rattle.resolver.specs.Layout.{layoutOf}
-use Rattle.lists.specs.Lists.{Lists, Row}
+use Rattle.nodes.specs.Lists.{Lists, Row}
 use Rattle.resolver.specs.Passes.{rowOfPass}
 use Rattle.resolver.specs.declared.Choices.{Choices}
 

@@ -3,8 +3,8 @@ use Prim.Native.Nat.{ℕ, _<_, _≤_}
 use mathlib.Core.Path.{_≡_}
 use mathlib.Core.Bool.{true, false}
 use lib.ListN.{length}
-use Rattle.lists.specs.Lists.{Lists, nodeCountSound, rowCountSound}
-use Rattle.lists.specs.Sound.{Lowest}
+use Rattle.nodes.specs.Lists.{Lists, nodeCountSound, rowCountSound}
+use Rattle.nodes.specs.Sound.{Lowest}
 
 -- The lists, with the choice of the fill, are malformed at a place. "then 4: node count, row count, limit, then the lowest node"; "4 for an unknown
 -- choice, after the limit (field 3)".

@@ -2,18 +2,18 @@
 use Prim.Native.Nat.{ℕ, zero, suc, _+_, _/_}
 use lib.Dec.{eqb}
 use lib.ListN.{length}
-use Rattle.refusal.specs.Pick.{pick}
-use Rattle.refusal.specs.declared.Opt.{Opt}
-use Rattle.refusal.specs.declared.Opt.the-variants.{None, Some}
+use Rattle.prelude.specs.Pick.{pick}
+use Rattle.prelude.specs.declared.Opt.{Opt}
+use Rattle.prelude.specs.declared.Opt.the-variants.{None, Some}
 use Rattle.bankdef.specs.declared.Bankdef.{Bankdef}
 use Rattle.iter.specs.Distance.{addressInBits, distanceTo}
 use Rattle.iter.specs.Step.{outermostSymbol}
 use Rattle.iter.specs.StepCases.{standing}
 use Rattle.iter.specs.declared.Lost.{Lost}
-use Rattle.lists.specs.Kinds.{isAlign}
-use Rattle.lists.specs.declared.Node.{Node}
+use Rattle.nodes.specs.Kinds.{isAlign}
+use Rattle.nodes.specs.declared.Node.{Node}
 use Rattle.resolver.specs.KnownInPass.{bankAt}
-use Rattle.lists.specs.Lists.{Row}
+use Rattle.nodes.specs.Lists.{Row}
 use Rattle.resolver.specs.NodeOrder.{defAt}
 use Rattle.resolver.specs.Once.{Program, node, walkTo}
 

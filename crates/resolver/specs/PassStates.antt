@@ -2,8 +2,8 @@
 -- each node has in a pass: "0, 1 and 2 don't read the state", a label's is found, every other kind has its row's.
 use Prim.Native.Nat.{ℕ}
 use Rattle.bankdef.specs.declared.Bankdefs.{Bankdefs}
-use Rattle.lists.specs.declared.Node.{Node}
-use Rattle.lists.specs.Lists.{Lists}
+use Rattle.nodes.specs.declared.Node.{Node}
+use Rattle.nodes.specs.Lists.{Lists}
 use Rattle.resolver.specs.Once.{node}
 use Rattle.resolver.specs.Passes.{program, rowOfPass}
 

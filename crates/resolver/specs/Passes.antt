@@ -5,10 +5,10 @@ use mathlib.Core.Bool.{Bool, true, false, not}
 use mathlib.Core.List.{List}
 use lib.Dec.{eqb, ltb}
 use lib.ListN.{length}
-use Rattle.refusal.specs.Pick.{pick}
-use Rattle.refusal.specs.declared.Refusal.the-variants.{Unresolved}
+use Rattle.prelude.specs.Pick.{pick}
+use Rattle.prelude.specs.declared.Refusal.the-variants.{Unresolved}
 use Rattle.bankdef.specs.declared.Bankdefs.{Bankdefs}
-use Rattle.lists.specs.Lists.{Lists, Row, rowOf, rowAt}
+use Rattle.nodes.specs.Lists.{Lists, Row, rowOf, rowAt}
 use Rattle.resolver.specs.Once.{Program, programWith, passOf}
 use Rattle.resolver.specs.declared.Pass.{Pass}
 use Rattle.resolver.specs.declared.Pass.the-variants.{State, Refused as Failed}

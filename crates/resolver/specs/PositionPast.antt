@@ -7,7 +7,7 @@ use Rattle.iter.specs.AdvanceFacts.{PassesLimit, SightPasses}
 use Rattle.iter.specs.Step.{seenOf}
 use Rattle.iter.specs.StepCases.{standing}
 use Rattle.iter.specs.declared.Moved.the-variants.{To}
-use Rattle.lists.specs.declared.Node.{Node}
+use Rattle.nodes.specs.declared.Node.{Node}
 use Rattle.iter.specs.declared.Pos.{Pos}
 use Rattle.iter.specs.declared.Walk.{Walk}
 

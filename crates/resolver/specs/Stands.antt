@@ -3,10 +3,10 @@ use Prim.Native.Nat.{ℕ, _<_}
 use mathlib.Core.Path.{_≡_}
 use mathlib.Core.List.{List}
 use lib.ListN.{length, replicate}
-use Rattle.refusal.specs.Limits.{maxBanks}
+use Rattle.prelude.specs.Limits.{maxBanks}
 use Rattle.iter.specs.Step.{origin}
 use Rattle.iter.specs.declared.Pos.{Pos}
-use Rattle.lists.specs.Lists.{Row}
+use Rattle.nodes.specs.Lists.{Row}
 use Rattle.resolver.specs.Once.{Program, walkTo}
 use Rattle.resolver.specs.declared.TwoWalks.{TwoWalks}
 

@@ -3,8 +3,8 @@ use Prim.Native.Nat.{ℕ, _<_, _≤_}
 use mathlib.Core.Path.{_≡_}
 use mathlib.Core.List.{List}
 use lib.ListN.{getD, length}
-use Rattle.refusal.specs.Limits.{maxBanks}
-use Rattle.lists.specs.Lists.{Lists, Rows}
+use Rattle.prelude.specs.Limits.{maxBanks}
+use Rattle.nodes.specs.Lists.{Lists, Rows}
 
 -- "banks, bank 0 included: 1 to 16", and each bank switch names one of them
 pub record Switches (banks : ℕ) (kinds operands : List ℕ) : Type 0 where

@@ -1,6 +1,6 @@
 -- What a layout's answer tells in document 01's figures: pass K, or a refusal's number and place.
 use Prim.Native.Nat.{ℕ}
-use Rattle.refusal.specs.Told.{Told, gives, toldRefusal}
+use Rattle.prelude.specs.Told.{Told, gives, toldRefusal}
 use Rattle.resolver.specs.declared.Settled.{Settled}
 use Rattle.resolver.specs.declared.Settled.the-variants.{At, Refused}
 

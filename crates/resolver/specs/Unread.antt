@@ -2,8 +2,8 @@
 use Prim.Native.Nat.{ℕ, _+_, _*_, _≤_, _<_}
 use mathlib.Core.Path.{_≡_}
 use lib.ListN.{getD, length}
-use Rattle.lists.specs.Kinds.{lastKind, ReadsNumber}
-use Rattle.lists.specs.Lists.{Lists}
+use Rattle.nodes.specs.Kinds.{lastKind, ReadsNumber}
+use Rattle.nodes.specs.Lists.{Lists}
 
 -- Lists with the same kinds and rows, as long as each other, that agree wherever a kind reads: operands of kinds 1 to 6; numbers where a kind reads it,
 -- but of kind 5 in the first row alone; states from kind 3 on. Of the value bytes a layout reads how many there are.

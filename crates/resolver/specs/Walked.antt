@@ -4,7 +4,7 @@ use mathlib.Core.Bool.{Bool}
 use Rattle.bankdef.specs.declared.Bankdef.{Bankdef}
 use Rattle.iter.specs.declared.Moved.{Moved}
 use Rattle.iter.specs.declared.Moved.the-variants.{To, Refused as Stopped}
-use Rattle.lists.specs.declared.Node.{Node}
+use Rattle.nodes.specs.declared.Node.{Node}
 use Rattle.resolver.specs.Once.{labelState, stateOf}
 
 -- the state of a node that sees a position

@@ -2,9 +2,9 @@
 use Prim.Native.Nat.{ℕ, _<_}
 use mathlib.Core.Path.{_≡_}
 use lib.ListN.{length}
-use Rattle.refusal.specs.Limits.{maxBanks}
+use Rattle.prelude.specs.Limits.{maxBanks}
 use Rattle.iter.specs.declared.Walk.{Walk}
-use Rattle.lists.specs.Lists.{Row}
+use Rattle.nodes.specs.Lists.{Row}
 use Rattle.resolver.specs.Once.{Program, walkTo}
 
 -- "bank positions, an array of 16 in the walk's state": before node i the loop's walk is the row's, and it stands in a bank of the table.

@@ -5,7 +5,7 @@ mod passes;
 use iter::Pos;
 pub use once::bank_record;
 pub use passes::resolve;
-use refusal::Refusal;
+use prelude::Refusal;
 
 // What a caller chooses, by value: the pass limit; the fill, 0 inherited and 1 full; and whether bank 0 is closed even where it is alone, which no pass reads.
 pub struct Choices {

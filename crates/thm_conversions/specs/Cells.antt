@@ -3,7 +3,7 @@ use Prim.Native.Nat.{_*_}
 use mathlib.Core.Path.{_≡_}
 use mathlib.Core.List.{_∷_}
 use lib.ListN.{length}
-use Rattle.lists.specs.Lists.{Lists, Row}
+use Rattle.nodes.specs.Lists.{Lists, Row}
 
 -- ---- rows and nodes
 

@@ -4,7 +4,7 @@ use mathlib.Core.List.{List}
 use mathlib.Core.Path.{_≡_}
 use Prim.Native.Nat.{ℕ, _≤_, max}
 use lib.ListN.{length, take}
-use Rattle.refusal.specs.Limits.{maxNodes, maxRows}
+use Rattle.prelude.specs.Limits.{maxNodes, maxRows}
 use Rattle.form_fields.specs.declared.Form.the-variants.{Sound}
 use Rattle.form_fields.specs.declared.Kind.{Kind}
 use Rattle.form_fields.specs.declared.Shape.{Shape}

@@ -1,10 +1,10 @@
 -- Ticket 13 with Ticket 9, of files: what a refusal of the layout with one bank becomes where a page size is given, number by number, and what becomes of the
 -- answer with a page size or without.
 use Prim.Native.Nat.{ℕ, suc}
-use Rattle.refusal.specs.declared.Opt.{Opt}
-use Rattle.refusal.specs.declared.Opt.the-variants.{None, Some}
-use Rattle.refusal.specs.declared.Refusal.{Refusal}
-use Rattle.refusal.specs.declared.Refusal.the-variants.{OffProfile}
+use Rattle.prelude.specs.declared.Opt.{Opt}
+use Rattle.prelude.specs.declared.Opt.the-variants.{None, Some}
+use Rattle.prelude.specs.declared.Refusal.{Refusal}
+use Rattle.prelude.specs.declared.Refusal.the-variants.{OffProfile}
 use Rattle.output.specs.Output.{Input}
 use Rattle.output.specs.declared.Output.{Output}
 use Rattle.thm_conversions.specs.Builds.{profileOutput}

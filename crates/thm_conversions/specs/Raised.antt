@@ -4,13 +4,13 @@ use mathlib.Core.Bool.{_||_}
 use mathlib.Core.List.{_∷_}
 use lib.Dec.{eqb}
 use lib.ListN.{getD, replicate}
-use Rattle.refusal.specs.Pick.{pick}
-use Rattle.refusal.specs.declared.Refusal.{Refusal}
-use Rattle.refusal.specs.declared.Refusal.the-variants.{BankCount, BankNumber, BanksOverlap, Malformed}
-use Rattle.refusal.specs.declared.Refusal.the-variants.{PositionPast, LabelOffBoundary, Unresolved, DefaultBank, PastBank}
-use Rattle.refusal.specs.declared.Refusal.the-variants.{NoOutput, Overlap, StoreFull, TooShort, BadStore, BadPart, PartlyCovered, FillBitDropped, OffProfile}
-use Rattle.refusal.specs.declared.Verdict.{Verdict}
-use Rattle.refusal.specs.declared.Verdict.the-variants.{Accepted, Refused}
+use Rattle.prelude.specs.Pick.{pick}
+use Rattle.prelude.specs.declared.Refusal.{Refusal}
+use Rattle.prelude.specs.declared.Refusal.the-variants.{BankCount, BankNumber, BanksOverlap, Malformed}
+use Rattle.prelude.specs.declared.Refusal.the-variants.{PositionPast, LabelOffBoundary, Unresolved, DefaultBank, PastBank}
+use Rattle.prelude.specs.declared.Refusal.the-variants.{NoOutput, Overlap, StoreFull, TooShort, BadStore, BadPart, PartlyCovered, FillBitDropped, OffProfile}
+use Rattle.prelude.specs.declared.Verdict.{Verdict}
+use Rattle.prelude.specs.declared.Verdict.the-variants.{Accepted, Refused}
 use Rattle.output.specs.Output.{Input}
 use Rattle.build_profile.specs.Pages.{noPages}
 use Rattle.build_profile.specs.declared.Paged.{Paged}

@@ -5,19 +5,19 @@ use mathlib.Core.Bool.{Bool, true, false, not, _&&_, _||_}
 use mathlib.Core.List.{List, [], _∷_, _++_}
 use lib.Dec.{eqb}
 use lib.ListN.{getD, length, take, drop, replicate}
-use Rattle.refusal.specs.Limits.{maxBanks, maxNodes}
-use Rattle.refusal.specs.Pick.{pick}
-use Rattle.refusal.specs.declared.Opt.the-variants.{None}
-use Rattle.refusal.specs.declared.Refusal.{Refusal}
-use Rattle.refusal.specs.declared.Refusal.the-variants.{BankCount, BankNumber, BanksOverlap, Malformed}
-use Rattle.refusal.specs.declared.Refusal.the-variants.{PositionPast, LabelOffBoundary, Unresolved, DefaultBank, PastBank}
-use Rattle.refusal.specs.declared.Refusal.the-variants.{NoOutput, Overlap, StoreFull, TooShort, BadStore, BadPart, PartlyCovered, FillBitDropped, OffProfile}
+use Rattle.prelude.specs.Limits.{maxBanks, maxNodes}
+use Rattle.prelude.specs.Pick.{pick}
+use Rattle.prelude.specs.declared.Opt.the-variants.{None}
+use Rattle.prelude.specs.declared.Refusal.{Refusal}
+use Rattle.prelude.specs.declared.Refusal.the-variants.{BankCount, BankNumber, BanksOverlap, Malformed}
+use Rattle.prelude.specs.declared.Refusal.the-variants.{PositionPast, LabelOffBoundary, Unresolved, DefaultBank, PastBank}
+use Rattle.prelude.specs.declared.Refusal.the-variants.{NoOutput, Overlap, StoreFull, TooShort, BadStore, BadPart, PartlyCovered, FillBitDropped, OffProfile}
 use Rattle.bankdef.specs.Check.{noBank}
 use Rattle.bankdef.specs.Numbers.{startSound, fillBit, bankFault}
 use Rattle.bankdef.specs.declared.Bankdef.{Bankdef}
 use Rattle.bankdef.specs.declared.Bankdefs.{Bankdefs}
 use Rattle.iter.specs.Step.{noLost}
-use Rattle.lists.specs.Lists.{Lists, rowCountSound, knownFill}
+use Rattle.nodes.specs.Lists.{Lists, rowCountSound, knownFill}
 use Rattle.resolver.specs.Once.{bankRecord}
 use Rattle.resolver.specs.declared.Choices.{Choices}
 use Rattle.output.specs.Output.{Input}

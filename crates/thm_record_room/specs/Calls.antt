@@ -1,6 +1,6 @@
 -- Calls that write records into a buffer in which every file of theirs fits: 14 is not given.
 use mathlib.Core.Path.{_≡_}
-use Rattle.refusal.specs.Told.{toldNumber}
+use Rattle.prelude.specs.Told.{toldNumber}
 use Rattle.record_write.specs.Outcome.{toldWritten}
 use Rattle.record_write.specs.declared.Written.{Written}
 

@@ -3,7 +3,7 @@ use mathlib.Core.Path.{_≡_}
 use mathlib.Core.List.{List}
 use Prim.Native.Nat.{ℕ, _≤_, _<_}
 use lib.ListN.{length, getD}
-use Rattle.refusal.specs.Told.{gives}
+use Rattle.prelude.specs.Told.{gives}
 use Rattle.blocks.specs.declared.Block.{Block}
 use Rattle.blocks.specs.declared.Blocks.{Blocks}
 use Rattle.blocks.specs.Outcome.{origins, sizes, over, toldBy}

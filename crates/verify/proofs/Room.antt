@@ -8,7 +8,7 @@ use borrow.Author.Tests.{le-leb, lt-leb}
 use lib.Dec.{leb}
 use lib.ListN.{length, length-map}
 use lib.Seq.{sets}
-use Rattle.refusal.specs.declared.Refusal.the-variants.{Malformed, BadPart, TooShort}
+use Rattle.prelude.specs.declared.Refusal.the-variants.{Malformed, BadPart, TooShort}
 use Rattle.blocks.specs.Laws.Room.{sets-over}
 use Rattle.overlay.specs.declared.Listed.{Listed}
 use Rattle.overlay.specs.declared.Listed.the-variants.{Runs, Refused}

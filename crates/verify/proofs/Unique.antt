@@ -4,8 +4,8 @@ use mathlib.Core.Path.{_≡_}
 use borrow.Fn.Kinds.{Dens, resT, endedOf}
 use contract.Lifetimes.{Lfts}
 use denote.Triple.Clauses.{AtExit}
-use Rattle.refusal.specs.Laws.Outcome.{OneOutcome}
-use Rattle.refusal.specs.Laws.Pick.{determined}
+use Rattle.prelude.specs.Laws.Outcome.{OneOutcome}
+use Rattle.prelude.specs.Laws.Pick.{determined}
 use Rattle.overlay.proofs.in_order.Kinds as in-order-kinds
 use Rattle.overlay.proofs.in_order.Reads as in-order-reads
 use Rattle.verify.proofs.compare.Kinds as compare-kinds

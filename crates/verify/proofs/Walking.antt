@@ -9,7 +9,7 @@ use native.Mathlib.Decide.{ℕ-discrete}
 use borrow.Author.Tests.{eq-eqb, ne-eqb}
 use lib.Dec.{eqb}
 use lib.ListN.{length}
-use Rattle.refusal.specs.Pick.{pick}
+use Rattle.prelude.specs.Pick.{pick}
 use Rattle.verify.specs.Whole.{Sound}
 use Rattle.verify.specs.Runs.{Readback, Run, kindBy, kindOf, closed, closedAt, startedAt, runsFrom, runsOf}
 use Rattle.verify.specs.Put.{Cursor, Put}

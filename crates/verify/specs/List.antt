@@ -5,8 +5,8 @@ use mathlib.Core.List.{List}
 use Prim.Native.Nat.{ℕ}
 use lib.Dec.{leb}
 use lib.ListN.{length}
-use Rattle.refusal.specs.Pick.{pick}
-use Rattle.refusal.specs.declared.Refusal.the-variants.{Malformed, BadPart, TooShort}
+use Rattle.prelude.specs.Pick.{pick}
+use Rattle.prelude.specs.declared.Refusal.the-variants.{Malformed, BadPart, TooShort}
 use Rattle.blocks.specs.Outcome.{over}
 use Rattle.overlay.specs.declared.Listed.{Listed}
 use Rattle.overlay.specs.declared.Listed.the-variants.{Runs, Refused}

@@ -1,7 +1,7 @@
 // Read-back: what was flashed, read back and held against the image. The bytes that the image's blocks ask for are listed, in runs, where the bytes that were
 // read back do not give them, and where they give them with another value.
 use overlay::Listed;
-use refusal::Refusal;
+use prelude::Refusal;
 ghost use mathlib.Core.Path.{_≡_};
 ghost use Prim.Native.Nat.{_+_, _-_, _*_, _/_, _≤_};
 ghost use lib.ListN.{length, getD, set};

@@ -6,8 +6,8 @@ use borrow.Author.Tests.{le-leb, lt-leb, lt-ltb, le-ltb}
 use native.Mathlib.Omega.{arith}
 use lib.ListN.{length}
 use lib.Seq.{length-take-le}
-use Rattle.refusal.specs.Told.{toldVerdict}
-use Rattle.refusal.specs.declared.Verdict.{Verdict}
+use Rattle.prelude.specs.Told.{toldVerdict}
+use Rattle.prelude.specs.declared.Verdict.{Verdict}
 use Rattle.bankdef.specs.declared.Bankdefs.{Bankdefs}
 use Rattle.bankdef.specs.Check.{countSound, banksOf, firstFault, someFault, checkOf}
 use Rattle.bankdef.specs.Told.{Checks}

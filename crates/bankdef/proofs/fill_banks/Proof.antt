@@ -5,7 +5,7 @@ use borrow.Author.Needs.{needs}
 use lib.Dec.{eqb}
 use lib.ListN.{take, drop}
 use lib.ListN as L
-use Rattle.refusal.specs.Limits.{maxOffer}
+use Rattle.prelude.specs.Limits.{maxOffer}
 use Rattle.bankdef.specs.Check.{noBank}
 use Rattle.bankdef.proofs.Raise.{raiseFrom, chosen}
 use Rattle.bankdef.proofs.Walk.{within, met, ended}

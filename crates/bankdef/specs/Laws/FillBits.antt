@@ -7,11 +7,11 @@ use native.Mathlib.Omega.{arith}
 use lib.Dec.{ltb, leb, eqb}
 use lib.ListN.{length, getD, drop}
 use borrow.Author.Tests.{ltb-true, leb-true, eqb-true, eqb-false}
-use Rattle.refusal.specs.Pick.{pick}
-use Rattle.refusal.specs.declared.Opt.{Opt}
-use Rattle.refusal.specs.declared.Opt.the-variants.{None, Some}
+use Rattle.prelude.specs.Pick.{pick}
+use Rattle.prelude.specs.declared.Opt.{Opt}
+use Rattle.prelude.specs.declared.Opt.the-variants.{None, Some}
 use Rattle.bankdef.specs.declared.Bankdef.{Bankdef}
-use Rattle.refusal.specs.Laws.Bools.{either, clash, both, or-left, or-right}
+use Rattle.prelude.specs.Laws.Bools.{either, clash, both, or-left, or-right}
 use Rattle.bankdef.specs.Check.{noBank}
 use Rattle.bankdef.specs.SharedBit.{InPlace, InBank}
 use Rattle.bankdef.specs.FillBits.{FillsBit, fillBitAt, fillsBy, onesAt, onesIn}

@@ -7,13 +7,13 @@ use Prim.Native.Nat.{ℕ, zero, suc, _+_, _<_}
 use native.Mathlib.Omega.{arith}
 use borrow.Author.Tests.{ltb-true}
 use lib.ListN.{length, getD}
-use Rattle.refusal.specs.declared.Opt.{Opt}
-use Rattle.refusal.specs.declared.Opt.the-variants.{None, Some}
-use Rattle.refusal.specs.declared.Refusal.the-variants.{BanksOverlap}
-use Rattle.refusal.specs.declared.Verdict.{Verdict}
-use Rattle.refusal.specs.declared.Verdict.the-variants.{Accepted, Refused}
+use Rattle.prelude.specs.declared.Opt.{Opt}
+use Rattle.prelude.specs.declared.Opt.the-variants.{None, Some}
+use Rattle.prelude.specs.declared.Refusal.the-variants.{BanksOverlap}
+use Rattle.prelude.specs.declared.Verdict.{Verdict}
+use Rattle.prelude.specs.declared.Verdict.the-variants.{Accepted, Refused}
 use Rattle.bankdef.specs.declared.Bankdef.{Bankdef}
-use Rattle.refusal.specs.Laws.Bools.{either, clash}
+use Rattle.prelude.specs.Laws.Bools.{either, clash}
 use Rattle.bankdef.specs.Search.{firstWhere, someWhere}
 use Rattle.bankdef.specs.Laws.Search.{not-before, some, first-passes}
 use Rattle.bankdef.specs.Overlap.{rangesOverlap, placesOverlap, pairOverlaps}

@@ -6,10 +6,10 @@ use Prim.Native.Nat.{ℕ, zero, suc, _≤_, _<_}
 use native.Mathlib.Omega.{arith}
 use borrow.Author.Tests.{lt-ltb, eqb-true, ne-eqb}
 use lib.ListN.{length, getD}
-use Rattle.refusal.specs.declared.Verdict.{Verdict}
+use Rattle.prelude.specs.declared.Verdict.{Verdict}
 use Rattle.bankdef.specs.declared.Bankdef.{Bankdef}
 use Rattle.bankdef.specs.declared.Bankdefs.{Bankdefs}
-use Rattle.refusal.specs.Laws.Bools.{either, clash}
+use Rattle.prelude.specs.Laws.Bools.{either, clash}
 use Rattle.bankdef.specs.Search.{firstWhere}
 use Rattle.bankdef.specs.Laws.Search.{not-before, first-passes}
 use Rattle.bankdef.specs.Numbers.{fillBit, bankFault, zeroFault, faultAt, bank-0-one}

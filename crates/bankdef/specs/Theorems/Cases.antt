@@ -1,9 +1,9 @@
 -- Theorems about what Cases defines.
 use mathlib.Core.Path.{_≡_, refl}
-use Rattle.refusal.specs.Refusals.{numberOf}
-use Rattle.refusal.specs.declared.Opt.the-variants.{None, Some}
-use Rattle.refusal.specs.declared.Refusal.the-variants.{BanksOverlap}
-use Rattle.refusal.specs.declared.Verdict.the-variants.{Accepted, Refused}
+use Rattle.prelude.specs.Refusals.{numberOf}
+use Rattle.prelude.specs.declared.Opt.the-variants.{None, Some}
+use Rattle.prelude.specs.declared.Refusal.the-variants.{BanksOverlap}
+use Rattle.prelude.specs.declared.Verdict.the-variants.{Accepted, Refused}
 use Rattle.bankdef.specs.Search.{firstWhere}
 use Rattle.bankdef.specs.Check.{firstPair}
 use Rattle.bankdef.specs.Fill.{fillFrom}

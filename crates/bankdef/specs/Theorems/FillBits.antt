@@ -9,10 +9,10 @@ use lib.Dec.{eqb}
 use lib.ListN.{length, getD, drop, length-take}
 use lib.Seq.{getD-take}
 use borrow.Author.Tests.{lt-ltb, le-leb, eqb-true}
-use Rattle.refusal.specs.declared.Verdict.the-variants.{Accepted}
+use Rattle.prelude.specs.declared.Verdict.the-variants.{Accepted}
 use Rattle.bankdef.specs.declared.Bankdef.{Bankdef}
 use Rattle.bankdef.specs.declared.Bankdefs.{Bankdefs}
-use Rattle.refusal.specs.Laws.Bools.{both}
+use Rattle.prelude.specs.Laws.Bools.{both}
 use Rattle.bankdef.specs.Numbers.{fillBit, SoundBank}
 use Rattle.bankdef.specs.Check.{noBank, banksOf, checkOf}
 use Rattle.bankdef.specs.Theorems.Refused.{accepted}

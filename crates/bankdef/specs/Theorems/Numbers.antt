@@ -7,9 +7,9 @@ use native.Mathlib.Omega.{arith}
 use borrow.Author.Tests.{ltb-true, ltb-false, lt-ltb, leb-true, leb-false, lt-leb, eqb-true, eqb-false, eq-eqb, not-false}
 use lib.Dec.{ltb, leb, eqb}
 use lib.IntN.{ℤ, natAbs}
-use Rattle.refusal.specs.Laws.Bools.{either, clash, both, neither, or-left, or-right, or-else}
+use Rattle.prelude.specs.Laws.Bools.{either, clash, both, neither, or-left, or-right, or-else}
 use Rattle.bankdef.specs.Laws.Integers.{between}
-use Rattle.refusal.specs.Limits.{maxStart}
+use Rattle.prelude.specs.Limits.{maxStart}
 use Rattle.bankdef.specs.declared.Bankdef.{Bankdef}
 use Rattle.bankdef.specs.Laws.Numbers.{zero-size}
 use Rattle.bankdef.specs.Numbers.{Faulty, SoundBank, bank-0-one, bankFault, far-start, faultAt, fillBit, filled-empty, isZero, no-bit}

@@ -7,10 +7,10 @@ use borrow.Author.Tests.{ltb-true, leb-true}
 use lib.Dec.{leb}
 use lib.ListN.{length, getD, length-take}
 use lib.Seq.{getD-take}
-use Rattle.refusal.specs.Limits.{maxBanks}
-use Rattle.refusal.specs.declared.Verdict.the-variants.{Accepted}
+use Rattle.prelude.specs.Limits.{maxBanks}
+use Rattle.prelude.specs.declared.Verdict.the-variants.{Accepted}
 use Rattle.bankdef.specs.declared.Bankdefs.{Bankdefs}
-use Rattle.refusal.specs.Laws.Bools.{either, clash, both}
+use Rattle.prelude.specs.Laws.Bools.{either, clash, both}
 use Rattle.bankdef.specs.Numbers.{fillBit, bankFault, faultAt, bank-0-one}
 use Rattle.bankdef.specs.Theorems.Numbers.{sound-bank, fault-anywhere, fault-exactly}
 use Rattle.bankdef.specs.Check.{noBank, banksOf, countSound, firstFault, someFault, checkOf}

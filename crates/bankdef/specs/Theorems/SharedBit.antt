@@ -3,10 +3,10 @@ use mathlib.Core.Path.{_≡_, refl}
 use mathlib.Core.Bool.{true, false}
 use mathlib.Core.Logic.{_↔_}
 use Prim.Native.Nat.{ℕ}
-use Rattle.refusal.specs.declared.Opt.{Opt}
-use Rattle.refusal.specs.declared.Opt.the-variants.{None, Some}
+use Rattle.prelude.specs.declared.Opt.{Opt}
+use Rattle.prelude.specs.declared.Opt.the-variants.{None, Some}
 use Rattle.bankdef.specs.declared.Bankdef.{Bankdef}
-use Rattle.refusal.specs.Laws.Bools.{clash}
+use Rattle.prelude.specs.Laws.Bools.{clash}
 use Rattle.bankdef.specs.Numbers.{isZero}
 use Rattle.bankdef.specs.Overlap.{rangesOverlap, placesOverlap, pairOverlaps}
 use Rattle.bankdef.specs.Laws.SharedBit.{common, overlapping}

@@ -1,5 +1,5 @@
 -- Theorems about what Told defines.
-use Rattle.refusal.specs.Told.{toldVerdict}
+use Rattle.prelude.specs.Told.{toldVerdict}
 use Rattle.bankdef.specs.declared.Bankdefs.{Bankdefs}
 use Rattle.bankdef.specs.Check.{checkOf}
 use Rattle.bankdef.specs.Theorems.Refused.{decided}

@@ -4,7 +4,7 @@ use Prim.Native.Nat.{ℕ, zero, suc, _+_, _-_, _*_, _/_, _%_, _^_, _<_}
 use native.Mathlib.Nat.{add-zero, add-suc, add-comm, add-assoc, add-mul, mul-assoc, mul-comm, pow-zero, pow-suc, div-one, div-div-eq-div-mul}
 use mathlib.Core.Bool.{Bool, true, false}
 use native.Mathlib.Omega.{arith}
-use Rattle.refusal.specs.Pick.{pick}
+use Rattle.prelude.specs.Pick.{pick}
 use lib.Pow.{pow-add, shl-lt, high, low}
 use Rattle.bitvec.specs.Numeral.{Bits, bitOf, numeral}
 

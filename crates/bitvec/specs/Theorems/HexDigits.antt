@@ -8,8 +8,8 @@ use lib.Dec.{leb, ltb}
 use lib.ListN.{length, getD, drop}
 use lib.Seq.{getD-append-add, getD-drop}
 use borrow.Author.Tests.{lt-ltb, le-ltb, leb-true, leb-false}
-use Rattle.refusal.specs.Pick.{pick}
-use Rattle.refusal.specs.declared.Refusal.the-variants.{Malformed, TooShort}
+use Rattle.prelude.specs.Pick.{pick}
+use Rattle.prelude.specs.declared.Refusal.the-variants.{Malformed, TooShort}
 use Rattle.bitvec.specs.declared.Hex.{Hex}
 use Rattle.bitvec.specs.declared.Hex.the-variants.{Digits, Refused}
 use Rattle.bitvec.specs.Within.{endsWithin}

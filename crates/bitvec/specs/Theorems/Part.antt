@@ -10,12 +10,12 @@ use native.Mathlib.Nat.{min-eq-left}
 use native.Mathlib.Omega.{arith}
 use lib.ListN.{length, getD, drop, length-take, length-drop}
 use lib.Seq.{getD-take, getD-drop}
-use Rattle.refusal.specs.Laws.Bools.{either, clash}
-use Rattle.refusal.specs.Pick.{pick}
-use Rattle.refusal.specs.Told.{Told, Nothing, toldNumber, toldVerdict}
-use Rattle.refusal.specs.declared.Refusal.the-variants.{BadPart}
-use Rattle.refusal.specs.declared.Verdict.{Verdict}
-use Rattle.refusal.specs.declared.Verdict.the-variants.{Accepted, Refused}
+use Rattle.prelude.specs.Laws.Bools.{either, clash}
+use Rattle.prelude.specs.Pick.{pick}
+use Rattle.prelude.specs.Told.{Told, Nothing, toldNumber, toldVerdict}
+use Rattle.prelude.specs.declared.Refusal.the-variants.{BadPart}
+use Rattle.prelude.specs.declared.Verdict.{Verdict}
+use Rattle.prelude.specs.declared.Verdict.the-variants.{Accepted, Refused}
 use Rattle.bitvec.specs.Within.{endsWithin}
 use Rattle.bitvec.specs.Laws.Part.{fit-not}
 use Rattle.bitvec.specs.Part.{IsPart, Judges, PartTold, Unfit, empty, fit, isPart, outside, partOf, partVerdict, ragged-end, ragged-start, unfit}

@@ -6,7 +6,7 @@ use mathlib.Core.List.{List, _++_}
 use Prim.Native.Nat.{ℕ, _≤_}
 use lib.ListN.{length, take, drop}
 use lib.Seq.{length-take-le}
-use Rattle.refusal.specs.Limits.{maxNodes}
+use Rattle.prelude.specs.Limits.{maxNodes}
 use Rattle.sort.specs.Numbers.{order}
 use Rattle.sort.specs.Theorems.OrderFacts.{order-length}
 use Rattle.blocks.specs.declared.Block.{Block}

@@ -5,7 +5,7 @@ use mathlib.Core.Bool.{true}
 use Prim.Native.Nat.{ℕ, _-_, _<_, _≤_}
 use native.Mathlib.Omega.{arith}
 use lib.ListN.{length, getD}
-use Rattle.refusal.specs.Limits.{maxPosition}
+use Rattle.prelude.specs.Limits.{maxPosition}
 use Rattle.blocks.specs.Offsets.{offsetOf}
 use Rattle.blocks.specs.Spans.{offsetWithin}
 use Rattle.blocks.specs.Laws.Acceptable.{within-parts}

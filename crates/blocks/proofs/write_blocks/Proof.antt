@@ -1,6 +1,6 @@
 -- `write_blocks` meets its contract: the first walk counts the blocks, and the second is made only where there is room for all.
 use borrow.Author.Needs.{needs}
-use Rattle.refusal.specs.declared.Refusal.the-variants.{TooShort}
+use Rattle.prelude.specs.declared.Refusal.the-variants.{TooShort}
 use Rattle.blocks.specs.declared.Blocks.the-variants.{Found, Refused}
 use Rattle.blocks.specs.Numbered.{numberedBlocks}
 use Rattle.blocks.specs.Laws.Room.{short-first, short-second, enough}

@@ -8,10 +8,10 @@ use native.Mathlib.Omega.{arith}
 use borrow.Author.Tests.{le-leb, leb-true}
 use lib.Dec.{leb}
 use lib.ListN.{length, getD}
-use Rattle.refusal.specs.declared.Offset.{Offset}
-use Rattle.refusal.specs.declared.Offset.the-variants.{None, At}
-use Rattle.refusal.specs.Limits.{maxOffer, maxPosition}
-use Rattle.refusal.specs.Pick.{pick}
+use Rattle.prelude.specs.declared.Offset.{Offset}
+use Rattle.prelude.specs.declared.Offset.the-variants.{None, At}
+use Rattle.prelude.specs.Limits.{maxOffer, maxPosition}
+use Rattle.prelude.specs.Pick.{pick}
 use Rattle.blocks.specs.Offsets.{offsetOf}
 use Rattle.blocks.specs.Spans.{span, offsetWithin, within, spansOf, allWithin}
 use Rattle.blocks.specs.Acceptable.{OffsetFits, SpanFits}

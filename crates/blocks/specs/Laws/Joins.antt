@@ -7,7 +7,7 @@ use Prim.Native.Nat.{ℕ}
 use native.Mathlib.Decide.{ℕ-discrete}
 use native.Mathlib.Omega.{arith}
 use borrow.Author.Tests.{eq-eqb, ne-eqb}
-use Rattle.refusal.specs.declared.Offset.the-variants.{At}
+use Rattle.prelude.specs.declared.Offset.the-variants.{At}
 use Rattle.blocks.specs.declared.Block.{Block}
 use Rattle.blocks.specs.Spans.{Span}
 use Rattle.blocks.specs.Walk.{block, kept, blocksFrom}

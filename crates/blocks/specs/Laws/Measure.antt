@@ -7,9 +7,9 @@ use native.Mathlib.Omega.{arith}
 use borrow.Author.Tests.{eqb-true}
 use lib.Dec.{eqb}
 use mathlib.Core.Bool.{Bool, true, false}
-use Rattle.refusal.specs.declared.Offset.{Offset}
-use Rattle.refusal.specs.declared.Offset.the-variants.{None, At}
-use Rattle.refusal.specs.Pick.{pick}
+use Rattle.prelude.specs.declared.Offset.{Offset}
+use Rattle.prelude.specs.declared.Offset.the-variants.{None, At}
+use Rattle.prelude.specs.Pick.{pick}
 use Rattle.sort.specs.Order.{total}
 use Rattle.sort.specs.Theorems.Order.{sorted-keeps-totals}
 use Rattle.blocks.specs.declared.Block.{Block}

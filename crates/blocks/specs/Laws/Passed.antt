@@ -4,8 +4,8 @@ use mathlib.Core.List.{List, [], _∷_, _++_}
 use mathlib.Core.Logic.{⊎-elim}
 use Prim.Native.Nat.{ℕ, _<_}
 use lib.Dec.{leb}
-use Rattle.refusal.specs.declared.Offset.{Offset}
-use Rattle.refusal.specs.declared.Offset.the-variants.{None, At}
+use Rattle.prelude.specs.declared.Offset.{Offset}
+use Rattle.prelude.specs.declared.Offset.the-variants.{None, At}
 use Rattle.sort.specs.Agree.{All}
 use Rattle.sort.specs.Laws.Agree.{insert-least, insert-agrees}
 use Rattle.sort.specs.Theorems.Order.{NoneBelow, Ascending, none-below-less, sorted-ascends}

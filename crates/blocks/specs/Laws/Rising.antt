@@ -8,9 +8,9 @@ use native.Mathlib.Nat.{le-trans, le-refl, le-of-suc-le-suc, pos-of-ne-zero}
 use native.Mathlib.Omega.{arith}
 use borrow.Author.Tests.{eqb-false}
 use lib.Dec.{eqb}
-use Rattle.refusal.specs.declared.Offset.{Offset}
-use Rattle.refusal.specs.declared.Offset.the-variants.{None, At}
-use Rattle.refusal.specs.Pick.{pick}
+use Rattle.prelude.specs.declared.Offset.{Offset}
+use Rattle.prelude.specs.declared.Offset.the-variants.{None, At}
+use Rattle.prelude.specs.Pick.{pick}
 use Rattle.sort.specs.Theorems.Order.{NoneBelow, Ascending}
 use Rattle.blocks.specs.declared.Block.{Block}
 use Rattle.blocks.specs.Spans.{Span, rank, rankOf}

@@ -7,8 +7,8 @@ use Prim.Native.Nat.{ℕ, _≤_}
 use borrow.Author.Tests.{le-leb, leb-true, eq-eqb, eqb-true}
 use lib.Dec.{leb, eqb}
 use lib.ListN.{length, getD}
-use Rattle.refusal.specs.Limits.{maxNodes}
-use Rattle.refusal.specs.Pick.{pick}
+use Rattle.prelude.specs.Limits.{maxNodes}
+use Rattle.prelude.specs.Pick.{pick}
 use Rattle.blocks.specs.Offsets.{offsetOf}
 use Rattle.blocks.specs.Spans.{spansOf, allWithin, acceptable}
 use Rattle.blocks.specs.Acceptable.{WellLent}

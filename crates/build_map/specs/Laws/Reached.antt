@@ -2,16 +2,16 @@
 use mathlib.Core.Path.{_≡_, refl}
 use Prim.Native.Nat.{ℕ, _≤_}
 use native.Mathlib.Omega.{arith}
-use Rattle.refusal.specs.Refusals.{numberOf, placeOf}
-use Rattle.refusal.specs.Told.{Told, refuses, toldRefusal}
-use Rattle.refusal.specs.declared.Place.{Place}
-use Rattle.refusal.specs.declared.Place.the-variants.{One}
-use Rattle.refusal.specs.declared.Refusal.{Refusal}
-use Rattle.refusal.specs.declared.Refusal.the-variants.{BankCount, BankNumber, BanksOverlap, Malformed, PositionPast, LabelOffBoundary, Unresolved, DefaultBank}
-use Rattle.refusal.specs.declared.Refusal.the-variants.{PastBank, NoOutput, Overlap, StoreFull, TooShort}
-use Rattle.refusal.specs.declared.Refusal.the-variants.{BadStore, BadPart, PartlyCovered, FillBitDropped, OffProfile}
-use Rattle.refusal.specs.declared.Verdict.{Verdict}
-use Rattle.refusal.specs.declared.Verdict.the-variants.{Accepted, Refused as TurnedAway}
+use Rattle.prelude.specs.Refusals.{numberOf, placeOf}
+use Rattle.prelude.specs.Told.{Told, refuses, toldRefusal}
+use Rattle.prelude.specs.declared.Place.{Place}
+use Rattle.prelude.specs.declared.Place.the-variants.{One}
+use Rattle.prelude.specs.declared.Refusal.{Refusal}
+use Rattle.prelude.specs.declared.Refusal.the-variants.{BankCount, BankNumber, BanksOverlap, Malformed, PositionPast, LabelOffBoundary, Unresolved, DefaultBank}
+use Rattle.prelude.specs.declared.Refusal.the-variants.{PastBank, NoOutput, Overlap, StoreFull, TooShort}
+use Rattle.prelude.specs.declared.Refusal.the-variants.{BadStore, BadPart, PartlyCovered, FillBitDropped, OffProfile}
+use Rattle.prelude.specs.declared.Verdict.{Verdict}
+use Rattle.prelude.specs.declared.Verdict.the-variants.{Accepted, Refused as TurnedAway}
 use Rattle.resolver.specs.Layout.{unless}
 use Rattle.resolver.specs.declared.Resolution.{Resolution}
 use Rattle.build_map.specs.Map.{nodeOf}

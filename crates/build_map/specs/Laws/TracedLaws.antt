@@ -5,16 +5,16 @@ use mathlib.Core.List.{List}
 use Prim.Native.Nat.{ℕ, _+_, _≤_, _<_}
 use native.Mathlib.Omega.{arith}
 use lib.ListN.{length}
-use Rattle.refusal.specs.Laws.Bools.{unlike}
-use Rattle.refusal.specs.declared.Refusal.{Refusal}
-use Rattle.refusal.specs.declared.Verdict.{Verdict}
-use Rattle.refusal.specs.declared.Verdict.the-variants.{Accepted, Refused}
+use Rattle.prelude.specs.Laws.Bools.{unlike}
+use Rattle.prelude.specs.declared.Refusal.{Refusal}
+use Rattle.prelude.specs.declared.Verdict.{Verdict}
+use Rattle.prelude.specs.declared.Verdict.the-variants.{Accepted, Refused}
 use Rattle.iter.specs.declared.Lost.{Lost}
-use Rattle.lists.specs.Lists.{Row}
+use Rattle.nodes.specs.Lists.{Row}
 use Rattle.resolver.specs.Once.{Program}
 use Rattle.overlap_checker.specs.State.{State, emptyState}
-use Rattle.build_sights.specs.declared.Visit.{Visit}
-use Rattle.build_sights.specs.Visits.{visitAt, visitsTo, visits}
+use Rattle.build_visits.specs.declared.Visit.{Visit}
+use Rattle.build_visits.specs.Visits.{visitAt, visitsTo, visits}
 use Rattle.build_plan.specs.Laws.Walked.{walked-few, refused-walked, stopped-at, all-walked}
 use Rattle.build_plan.specs.Placing.{Placed, holds, stops, placedNext, placedAll, walkedAll}
 use Rattle.build_plan.specs.Plan.{planBy}

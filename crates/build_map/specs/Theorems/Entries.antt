@@ -5,10 +5,10 @@ use Prim.Native.Nat.{ℕ, _≤_, _<_}
 use native.Mathlib.Decide.{decLt}
 use native.Mathlib.Omega.{arith}
 use lib.ListN.{getD}
-use Rattle.refusal.specs.Limits.{maxNodes}
+use Rattle.prelude.specs.Limits.{maxNodes}
 use Rattle.blocks.specs.Offsets.{wordOf}
-use Rattle.lists.specs.Kinds.{sizeOf}
-use Rattle.lists.specs.Theorems.Sound.{accepted-lists}
+use Rattle.nodes.specs.Kinds.{sizeOf}
+use Rattle.nodes.specs.Theorems.Sound.{accepted-lists}
 use Rattle.output.specs.Output.{passesOf}
 use Rattle.build_map.specs.Calls.{Call, programIn, rowIn, nodesIn, visitIn}
 use Rattle.build_map.specs.Theorems.Calls.{reach-is}

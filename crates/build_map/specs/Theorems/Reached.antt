@@ -7,18 +7,18 @@ use native.Mathlib.Omega.{arith}
 use borrow.Author.Tests.{eqb-true, ne-eqb}
 use lib.Dec.{eqb}
 use lib.ListN.{length}
-use Rattle.refusal.specs.Pick.{pick}
-use Rattle.refusal.specs.Refusals.{numberOf}
-use Rattle.refusal.specs.Told.{refuses}
-use Rattle.refusal.specs.declared.Place.the-variants.{One}
-use Rattle.refusal.specs.declared.Refusal.{Refusal}
+use Rattle.prelude.specs.Pick.{pick}
+use Rattle.prelude.specs.Refusals.{numberOf}
+use Rattle.prelude.specs.Told.{refuses}
+use Rattle.prelude.specs.declared.Place.the-variants.{One}
+use Rattle.prelude.specs.declared.Refusal.{Refusal}
 use Rattle.bankdef.specs.Check.{checkOf}
 use Rattle.iter.specs.declared.Moved.the-variants.{To}
 use Rattle.iter.specs.declared.Pos.{Pos}
 use Rattle.resolver.specs.Figures.{Figures, PastFirst, OffInLast, LastUnresolved}
 use Rattle.resolver.specs.Theorems.LastPass.{accepted-checked, sees-in-last}
 use Rattle.resolver.specs.Layout.{unless, layoutOf, Checked}
-use Rattle.lists.specs.Lists.{listsOf}
+use Rattle.nodes.specs.Lists.{listsOf}
 use Rattle.resolver.specs.NodeOrder.{seenAt}
 use Rattle.resolver.specs.Laws.Padding.{Walks}
 use Rattle.resolver.specs.Passes.{program, rowOfPass, passAt, resolutionOf}

@@ -2,8 +2,8 @@
 -- where nothing is refused.
 use mathlib.Core.Path.{_≡_, refl, sym, ap, _∙_}
 use Prim.Native.Nat.{ℕ, suc}
-use Rattle.refusal.specs.declared.Refusal.{Refusal}
-use Rattle.refusal.specs.declared.Refusal.the-variants.{LabelOffBoundary}
+use Rattle.prelude.specs.declared.Refusal.{Refusal}
+use Rattle.prelude.specs.declared.Refusal.the-variants.{LabelOffBoundary}
 use Rattle.bitvec.specs.Lists.{listOf}
 use Rattle.resolver.specs.Figures.{OffInLast}
 use Rattle.resolver.specs.Theorems.RefusedExactly.{seven-exactly}

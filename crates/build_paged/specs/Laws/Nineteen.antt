@@ -7,14 +7,14 @@ use mathlib.Core.Logic.{inl, inr}
 use native.Mathlib.Omega.{arith}
 use lib.Dec.{eqb, ltb}
 use lib.ListN.{length}
-use Rattle.refusal.specs.Pick.{pick}
-use Rattle.refusal.specs.Refusals.{numberOf}
-use Rattle.refusal.specs.Told.{Told, gives, refuses, toldNumber}
-use Rattle.refusal.specs.declared.Place.the-variants.{One}
-use Rattle.refusal.specs.declared.Refusal.{Refusal}
-use Rattle.refusal.specs.declared.Refusal.the-variants.{Unresolved, DefaultBank, PastBank, NoOutput, Overlap, StoreFull}
-use Rattle.refusal.specs.declared.Verdict.{Verdict}
-use Rattle.refusal.specs.declared.Verdict.the-variants.{Accepted, Refused}
+use Rattle.prelude.specs.Pick.{pick}
+use Rattle.prelude.specs.Refusals.{numberOf}
+use Rattle.prelude.specs.Told.{Told, gives, refuses, toldNumber}
+use Rattle.prelude.specs.declared.Place.the-variants.{One}
+use Rattle.prelude.specs.declared.Refusal.{Refusal}
+use Rattle.prelude.specs.declared.Refusal.the-variants.{Unresolved, DefaultBank, PastBank, NoOutput, Overlap, StoreFull}
+use Rattle.prelude.specs.declared.Verdict.{Verdict}
+use Rattle.prelude.specs.declared.Verdict.the-variants.{Accepted, Refused}
 use Rattle.bankdef.specs.Check.{checkOf}
 use Rattle.bankdef.specs.Theorems.Refused.{decided}
 use Rattle.bankdef.specs.declared.Bankdefs.{Bankdefs}
@@ -23,8 +23,8 @@ use Rattle.iter.specs.declared.Moved.the-variants.{To, Refused as Stopped}
 use Rattle.iter.specs.declared.Pos.{Pos}
 use Rattle.resolver.specs.Laws.Ends.{Ending, early, last, ends}
 use Rattle.resolver.specs.Layout.{unless, layoutOf}
-use Rattle.lists.specs.Kinds.{sizeOf}
-use Rattle.lists.specs.Lists.{Lists, Row, listsOf, firstOf}
+use Rattle.nodes.specs.Kinds.{sizeOf}
+use Rattle.nodes.specs.Lists.{Lists, Row, listsOf, firstOf}
 use Rattle.resolver.specs.Theorems.NodeOrder.{StopsAt, first-met}
 use Rattle.resolver.specs.NodeOrder.{seenAt, defAt}
 use Rattle.resolver.specs.Once.{Program, node, walkTo}
@@ -41,15 +41,15 @@ use Rattle.overlap_checker.specs.Folds.{stateAfter}
 use Rattle.overlap_checker.specs.Offers.{lacksRoom}
 use Rattle.overlap_checker.specs.State.{meets, tries, namedIn}
 use Rattle.overlap_checker.specs.declared.Entry.{Entry}
-use Rattle.build_sights.specs.Items.{isWritten, itemsOf, lengthOf}
+use Rattle.build_visits.specs.Items.{isWritten, itemsOf, lengthOf}
 use Rattle.output.specs.Output.{Input, Room, visitsOf, closedOf, fillOf, passesOf}
 use Rattle.output.specs.Output.{Figures, roomTold, placedTold, settledTold}
 use Rattle.build_plan.specs.Placing.{isPlaced, usesDefault, endsPast, lacksOutput, checked, answered, placing, verdictSeen, verdictOn, offerOf}
 use Rattle.build_plan.specs.Placing.{Placed, holds, stops, placedIf, placedNext, placedFrom, placedAll}
 use Rattle.build_plan.specs.Laws.PlacingLaws.{placed-last}
-use Rattle.build_sights.specs.Spans.{spansOf}
-use Rattle.build_sights.specs.Visits.{visitAt, visitsTo}
-use Rattle.build_sights.specs.declared.Visit.{Visit}
+use Rattle.build_visits.specs.Spans.{spansOf}
+use Rattle.build_visits.specs.Visits.{visitAt, visitsTo}
+use Rattle.build_visits.specs.declared.Visit.{Visit}
 use Rattle.build_profile.specs.Laws.Exactly.{numberIs, table-low, lists-low}
 
 -- ---- numbers of the ordinary build: below 17

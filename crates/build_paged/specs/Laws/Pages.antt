@@ -5,25 +5,25 @@ use mathlib.Core.Bool.{Bool, true, false, _&&_}
 use native.Mathlib.Omega.{arith}
 use lib.Dec.{eqb}
 use lib.ListN.{length, length-take, List·getD-eq-default}
-use Rattle.refusal.specs.Laws.Bools.{unlike, or-right}
-use Rattle.refusal.specs.Pick.{pick}
-use Rattle.refusal.specs.Laws.Pick.{pick-true}
-use Rattle.refusal.specs.declared.Opt.the-variants.{None, Some}
-use Rattle.refusal.specs.declared.Refusal.the-variants.{DefaultBank, PastBank, NoOutput}
-use Rattle.refusal.specs.declared.Verdict.the-variants.{Accepted as Fine, Refused}
+use Rattle.prelude.specs.Laws.Bools.{unlike, or-right}
+use Rattle.prelude.specs.Pick.{pick}
+use Rattle.prelude.specs.Laws.Pick.{pick-true}
+use Rattle.prelude.specs.declared.Opt.the-variants.{None, Some}
+use Rattle.prelude.specs.declared.Refusal.the-variants.{DefaultBank, PastBank, NoOutput}
+use Rattle.prelude.specs.declared.Verdict.the-variants.{Accepted as Fine, Refused}
 use Rattle.bankdef.specs.Check.{noBank, banksOf}
 use Rattle.bankdef.specs.declared.Bankdefs.{Bankdefs}
 use Rattle.iter.specs.declared.Moved.{Moved}
-use Rattle.lists.specs.Kinds.{sizeOf}
-use Rattle.lists.specs.Laws.Kinds.{written-adds}
+use Rattle.nodes.specs.Kinds.{sizeOf}
+use Rattle.nodes.specs.Laws.Kinds.{written-adds}
 use Rattle.resolver.specs.Once.{bankRecord}
 use Rattle.overlap_checker.specs.State.{State}
-use Rattle.build_sights.specs.Items.{isWritten}
+use Rattle.build_visits.specs.Items.{isWritten}
 use Rattle.build_plan.specs.Placing.{isPlaced, isOffered, usesDefault, endsPast, lacksOutput, checked, answered, tried, offerOf, verdictOn}
 use Rattle.build_plan.specs.Laws.PlacingLaws.{passed, seen-placing}
 use Rattle.build_plan.specs.Theorems.PlacingLaws.{checked-opens}
-use Rattle.build_sights.specs.Visits.{seenPos, positionOf}
-use Rattle.build_sights.specs.declared.Visit.{Visit}
+use Rattle.build_visits.specs.Visits.{seenPos, positionOf}
+use Rattle.build_visits.specs.declared.Visit.{Visit}
 use Rattle.build_profile.specs.Laws.RuleLaws.{both-kept}
 
 -- ---- an accepted visit passed 10

@@ -2,8 +2,8 @@
 use mathlib.Core.Path.{_≡_, refl}
 use mathlib.Core.Bool.{Bool, true, false}
 use lib.Count.{ones, onesIn}
-use Rattle.refusal.specs.declared.Verdict.the-variants.{Accepted}
-use Rattle.lists.specs.Lists.{lists}
+use Rattle.prelude.specs.declared.Verdict.the-variants.{Accepted}
+use Rattle.nodes.specs.Lists.{lists}
 use Rattle.resolver.specs.Passes.{first}
 use Rattle.build_profile.specs.Rules.{rulesOf}
 use Rattle.build_profile.specs.Standing.{bankBefore}

@@ -1,6 +1,6 @@
 -- A build in the profile is refused 19 exactly when a rule is broken: the ordinary build gives no 19.
 use Prim.Native.Nat.{ℕ, _<_}
-use Rattle.refusal.specs.Told.{toldNumber}
+use Rattle.prelude.specs.Told.{toldNumber}
 use Rattle.output.specs.Output.{Input, Lent, Room, settledOf}
 use Rattle.output.specs.Output.{settledTold}
 use Rattle.output.specs.declared.Output.{Output}

@@ -8,8 +8,8 @@ use native.Mathlib.Nat.{add-mod, zero-mod}
 use native.Mathlib.Omega.{arith}
 use lib.ListN.{getD}
 use borrow.Author.Tests.{ltb-false}
-use Rattle.refusal.specs.declared.Opt.{Opt}
-use Rattle.refusal.specs.declared.Opt.the-variants.{Some}
+use Rattle.prelude.specs.declared.Opt.{Opt}
+use Rattle.prelude.specs.declared.Opt.the-variants.{Some}
 use Rattle.bankdef.specs.Check.{noBank, banksOf}
 use Rattle.bankdef.specs.Fill.{fullLength}
 use Rattle.bankdef.specs.FillFacts.{Fills}
@@ -20,11 +20,11 @@ use Rattle.output.specs.Calls.{Accepted, nodesIn, visitIn, visitsIn, itemsIn, p
 use Rattle.output.specs.Theorems.Calls.{fine}
 use Rattle.output.specs.Theorems.Fills.{full-fills-all}
 use Rattle.output.specs.Theorems.ItemBits.{item-has-written-node, length-not-below-fill, length-is-fill-or-end}
-use Rattle.build_sights.specs.Items.{Item, endOf}
+use Rattle.build_visits.specs.Items.{Item, endOf}
 use Rattle.build_plan.specs.Placing.{endsPast}
 use Rattle.build_plan.specs.Laws.PlacingLaws.{each-accepted}
-use Rattle.build_sights.specs.Laws.VisitLaws.{visit-member}
-use Rattle.build_sights.specs.Visits.{positionOf}
+use Rattle.build_visits.specs.Laws.VisitLaws.{visit-member}
+use Rattle.build_visits.specs.Visits.{positionOf}
 use Rattle.build_profile.specs.Kept.{InProfile}
 use Rattle.build_profile.specs.Pages.{noPages, pagesOf}
 use Rattle.build_paged.specs.Laws.Pages.{fits, has-record, listed-by}

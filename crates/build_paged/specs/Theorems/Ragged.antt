@@ -4,7 +4,7 @@ use mathlib.Core.Path.{_≡_, _∙_}
 use mathlib.Core.Bool.{Bool, true, false}
 use native.Mathlib.Omega.{arith}
 use borrow.Author.Tests.{le-ltb}
-use Rattle.refusal.specs.Laws.Pick.{pick-false}
+use Rattle.prelude.specs.Laws.Pick.{pick-false}
 use Rattle.bankdef.specs.Check.{firstPair}
 use Rattle.bankdef.specs.Fill.{fullLength}
 use Rattle.bankdef.specs.Search.{firstWhere}
@@ -15,13 +15,13 @@ use Rattle.overlap_checker.specs.Marks.{countBelow, crossesAny, lowestInside}
 use Rattle.overlap_checker.specs.Offers.{placeFor, clashesAny, lacksRoom}
 use Rattle.overlap_checker.specs.State.{meets, tries, keeping, after}
 use Rattle.resolver.specs.Layout.{layoutOf}
-use Rattle.lists.specs.Lists.{lists, anyRowFault, nodesTo, listsOf}
+use Rattle.nodes.specs.Lists.{lists, anyRowFault, nodesTo, listsOf}
 use Rattle.resolver.specs.Once.{walkTo, passTo}
 use Rattle.resolver.specs.Passes.{first, settledBy}
-use Rattle.build_sights.specs.Items.{lengthOf}
+use Rattle.build_visits.specs.Items.{lengthOf}
 use Rattle.output.specs.Output.{Room, roomFor, buildOf}
 use Rattle.build_plan.specs.Placing.{checked, placedFrom}
-use Rattle.build_sights.specs.Visits.{visitsTo, each}
+use Rattle.build_visits.specs.Visits.{visitsTo, each}
 use Rattle.output.specs.declared.Build.the-variants.{Done}
 use Rattle.build_profile.specs.Kept.{InProfile}
 use Rattle.build_profile.specs.Theorems.Kept.{said-kept}

@@ -3,14 +3,14 @@ use mathlib.Core.Path.{_≡_, sym, _∙_}
 use Prim.Native.Nat.{ℕ, _+_, _≤_, max}
 use native.Mathlib.Omega.{arith}
 use borrow.Author.Tests.{not-true, not-false}
-use Rattle.refusal.specs.Limits.{maxOffer, maxPosition}
+use Rattle.prelude.specs.Limits.{maxOffer, maxPosition}
 use Rattle.build_plan.proofs.OfferLaws.{length-other, length-nowhere, length-at}
 use borrow.Author.Needs.{needs}
 use Rattle.build_plan.proofs.length_after.Statement.{statement}
 use Rattle.build_plan.proofs.length_after.Tie as tie
 use Rattle.build_plan.proofs.length_after.Reads as reads
 use Rattle.build_plan.proofs.length_after.Lts as lts
-use Rattle.lists.proofs.is_written.Reads as is-written-reads
+use Rattle.nodes.proofs.is_written.Reads as is-written-reads
 
 returns : tie.Need-returns
 returns c =

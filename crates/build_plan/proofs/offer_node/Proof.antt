@@ -4,8 +4,8 @@ use mathlib.Core.List.{[], _∷_}
 use Prim.Native.Nat.{_≤_}
 use native.Mathlib.Omega.{arith}
 use borrow.Author.Tests.{ne-eqb}
-use Rattle.refusal.specs.Limits.{maxPosition}
-use Rattle.refusal.specs.declared.Offset.{Offset}
+use Rattle.prelude.specs.Limits.{maxPosition}
+use Rattle.prelude.specs.declared.Offset.{Offset}
 use Rattle.overlap_checker.specs.Interval.{interval, Within}
 use Rattle.overlap_checker.specs.Lent.{Lent as Store, lent as store, stateIn}
 use Rattle.build_plan.specs.Placing.{offerAt}

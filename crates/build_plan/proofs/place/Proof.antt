@@ -10,7 +10,7 @@ use Rattle.build_plan.proofs.place.Tie as tie
 use Rattle.build_plan.proofs.place.Reads as reads
 use Rattle.build_plan.proofs.place.Lts as lts
 use Rattle.build_plan.proofs.checks.check_place.Reads as check-place-reads
-use Rattle.lists.proofs.is_placed.Reads as is-placed-reads
+use Rattle.nodes.proofs.is_placed.Reads as is-placed-reads
 use Rattle.build_plan.proofs.offer_node.Reads as offer-node-reads
 
 -- the store, as it is lent

@@ -4,15 +4,15 @@ use Prim.Native.Nat.{_-_, _≤_}
 use native.Mathlib.Omega.{arith}
 use lib.ListN.{length, length-map}
 use borrow.Author.Needs.{needs}
-use Rattle.refusal.specs.Laws.Bools.{unlike}
-use Rattle.refusal.specs.Limits.{maxNodes}
-use Rattle.refusal.specs.declared.Refusal.{Refusal}
-use Rattle.refusal.specs.declared.Verdict.the-variants.{Accepted, Refused}
-use Rattle.lists.specs.Lists.{Row, rowWith}
+use Rattle.prelude.specs.Laws.Bools.{unlike}
+use Rattle.prelude.specs.Limits.{maxNodes}
+use Rattle.prelude.specs.declared.Refusal.{Refusal}
+use Rattle.prelude.specs.declared.Verdict.the-variants.{Accepted, Refused}
+use Rattle.nodes.specs.Lists.{Row, rowWith}
 use Rattle.resolver.specs.Once.{Program, programWith}
 use Rattle.overlap_checker.specs.Lent.{lent as store}
-use Rattle.build_sights.specs.Sights.{Comes}
-use Rattle.build_sights.specs.Theorems.Sights.{in-banks, paced-is-visit, paced-next, paced-still}
+use Rattle.build_visits.specs.Sights.{Comes}
+use Rattle.build_visits.specs.Theorems.Sights.{in-banks, paced-is-visit, paced-next, paced-still}
 use Rattle.build_plan.specs.declared.Plan.{Plan}
 use Rattle.build_plan.proofs.PlanLaws.{Going, begins, settles, met-refused, goes-on, ends, met-all, ended}
 use Rattle.build_plan.proofs.plan_walk.Statement.{statement}

@@ -5,7 +5,7 @@ use Rattle.build_plan.proofs.spans_after.Statement.{statement}
 use Rattle.build_plan.proofs.spans_after.Tie as tie
 use Rattle.build_plan.proofs.spans_after.Reads as reads
 use Rattle.build_plan.proofs.spans_after.Lts as lts
-use Rattle.lists.proofs.is_span.Reads as is-span-reads
+use Rattle.nodes.proofs.is_span.Reads as is-span-reads
 
 returns : tie.Need-returns
 returns c = rw (sym (c .before .is-span .ensures) ∙ c .if1 .taken)

@@ -8,19 +8,19 @@ use Prim.Native.Nat.{ℕ, _<_}
 use native.Mathlib.Omega.{arith}
 use lib.Dec.{eqb}
 use lib.ListN.{take, drop, take-append-drop}
-use Rattle.refusal.specs.Laws.Bools.{unlike, or-right}
-use Rattle.refusal.specs.Pick.{pick}
-use Rattle.refusal.specs.Laws.Pick.{pick-true}
-use Rattle.refusal.specs.declared.Refusal.{Refusal}
-use Rattle.refusal.specs.declared.Verdict.{Verdict}
-use Rattle.refusal.specs.declared.Verdict.the-variants.{Accepted, Refused}
-use Rattle.refusal.specs.declared.Offset.{Offset}
-use Rattle.refusal.specs.declared.Offset.the-variants.{None as Nowhere, At as Out}
-use Rattle.lists.specs.declared.Node.{Node}
+use Rattle.prelude.specs.Laws.Bools.{unlike, or-right}
+use Rattle.prelude.specs.Pick.{pick}
+use Rattle.prelude.specs.Laws.Pick.{pick-true}
+use Rattle.prelude.specs.declared.Refusal.{Refusal}
+use Rattle.prelude.specs.declared.Verdict.{Verdict}
+use Rattle.prelude.specs.declared.Verdict.the-variants.{Accepted, Refused}
+use Rattle.prelude.specs.declared.Offset.{Offset}
+use Rattle.prelude.specs.declared.Offset.the-variants.{None as Nowhere, At as Out}
+use Rattle.nodes.specs.declared.Node.{Node}
 use Rattle.iter.specs.declared.Pos.{Pos}
 use Rattle.iter.specs.declared.Moved.{Moved}
 use Rattle.iter.specs.declared.Moved.the-variants.{To, Refused as Stopped}
-use Rattle.lists.specs.Lists.{firstOf}
+use Rattle.nodes.specs.Lists.{firstOf}
 use Rattle.overlap_checker.specs.declared.Entry.{Entry}
 use Rattle.overlap_checker.specs.Interval.{Covers}
 use Rattle.overlap_checker.specs.Offers.{placeFor}
@@ -30,9 +30,9 @@ use Rattle.overlap_checker.specs.Theorems.Answers.{accepts-any-node, accepted-f
 use Rattle.overlap_checker.specs.Theorems.Bits.{clash-exactly}
 use Rattle.overlap_checker.specs.Laws.Bits.{any-of}
 use Rattle.blocks.specs.Bits.{NoSharedBit}
-use Rattle.build_sights.specs.declared.Visit.{Visit}
-use Rattle.build_sights.specs.Visits.{each}
-use Rattle.build_sights.specs.Laws.VisitLaws.{each-from}
+use Rattle.build_visits.specs.declared.Visit.{Visit}
+use Rattle.build_visits.specs.Visits.{each}
+use Rattle.build_visits.specs.Laws.VisitLaws.{each-from}
 use Rattle.build_plan.specs.Placing.{isOffered, offerOf, checked, answered, tried}
 use Rattle.build_plan.specs.Placing.{placing, verdictSeen, verdictOn}
 use Rattle.build_plan.specs.Placing.{bitsAt, offersOf, Placed, holds, stops, placedIf, placedNext, placedFrom}

@@ -4,20 +4,20 @@ use mathlib.Core.Bool.{Bool}
 use mathlib.Core.List.{List}
 use Prim.Native.Nat.{ℕ, _<_}
 use lib.ListN.{length, getD, length-map, List·getD-map}
-use Rattle.refusal.specs.Laws.Bools.{unlike}
-use Rattle.refusal.specs.Limits.{maxBanks}
-use Rattle.refusal.specs.declared.Verdict.{Verdict}
-use Rattle.refusal.specs.declared.Verdict.the-variants.{Accepted, Refused}
+use Rattle.prelude.specs.Laws.Bools.{unlike}
+use Rattle.prelude.specs.Limits.{maxBanks}
+use Rattle.prelude.specs.declared.Verdict.{Verdict}
+use Rattle.prelude.specs.declared.Verdict.the-variants.{Accepted, Refused}
 use Rattle.bitvec.specs.Lists.{listOf}
 use Rattle.bitvec.specs.Laws.Lists.{length-listOf, getD-listOf}
 use Rattle.iter.specs.Laws.Crossing.{any-default}
 use Rattle.iter.specs.Step.{noLost}
 use Rattle.iter.specs.declared.Lost.{Lost}
-use Rattle.lists.specs.Lists.{Row}
+use Rattle.nodes.specs.Lists.{Row}
 use Rattle.resolver.specs.Once.{Program}
-use Rattle.build_sights.specs.Visits.{visits}
-use Rattle.build_sights.specs.Items.{itemsOf, lengthOf}
-use Rattle.build_sights.specs.Spans.{spansOf}
+use Rattle.build_visits.specs.Visits.{visits}
+use Rattle.build_visits.specs.Items.{itemsOf, lengthOf}
+use Rattle.build_visits.specs.Spans.{spansOf}
 use Rattle.build_plan.specs.Placing.{Placed, holds, stops, placedAll}
 use Rattle.build_plan.specs.declared.Plan.{Plan}
 use Rattle.build_plan.specs.Plan.{ofBanks, paddingsOf, planAccepted, planBy, planOf}

@@ -5,14 +5,14 @@ use mathlib.Core.List.{List, [], _∷_, _++_, append-nil, append-assoc}
 use Prim.Native.Nat.{ℕ, zero, suc, _+_, _≤_, _<_}
 use native.Mathlib.Omega.{arith}
 use lib.ListN.{length, length-append}
-use Rattle.refusal.specs.Laws.Bools.{unlike}
-use Rattle.refusal.specs.declared.Refusal.{Refusal}
+use Rattle.prelude.specs.Laws.Bools.{unlike}
+use Rattle.prelude.specs.declared.Refusal.{Refusal}
 use Rattle.overlap_checker.specs.State.{State, emptyState}
-use Rattle.lists.specs.Lists.{Row}
+use Rattle.nodes.specs.Lists.{Row}
 use Rattle.resolver.specs.Once.{Program}
-use Rattle.build_sights.specs.declared.Visit.{Visit}
-use Rattle.build_sights.specs.Visits.{visitAt, visitsTo, visits}
-use Rattle.build_sights.specs.Laws.VisitLaws.{visits-none, visits-next, visits-split}
+use Rattle.build_visits.specs.declared.Visit.{Visit}
+use Rattle.build_visits.specs.Visits.{visitAt, visitsTo, visits}
+use Rattle.build_visits.specs.Laws.VisitLaws.{visits-none, visits-next, visits-split}
 use Rattle.build_plan.specs.Placing.{Placed, holds, stops, placedNext, placedFrom, placedAll, walkedFrom, walkedAll}
 use Rattle.build_plan.specs.Laws.PlacingLaws.{placed-append, stops-stay, before-holds}
 

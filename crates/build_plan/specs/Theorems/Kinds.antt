@@ -8,10 +8,10 @@ use native.Mathlib.Decide.{decLe}
 use native.Mathlib.Omega.{arith}
 use borrow.Author.Tests.{leb-true, le-leb, eqb-true, eq-eqb}
 use lib.Dec.{eqb, leb}
-use Rattle.refusal.specs.Laws.Bools.{or-left, or-right, or-told, both}
-use Rattle.lists.specs.declared.Node.{Node}
-use Rattle.build_sights.specs.Items.{isWritten}
-use Rattle.build_sights.specs.Spans.{isSpan}
+use Rattle.prelude.specs.Laws.Bools.{or-left, or-right, or-told, both}
+use Rattle.nodes.specs.declared.Node.{Node}
+use Rattle.build_visits.specs.Items.{isWritten}
+use Rattle.build_visits.specs.Spans.{isSpan}
 use Rattle.build_plan.specs.Placing.{isReserve, isOffered, isPlaced}
 
 module _ (n : Node) where

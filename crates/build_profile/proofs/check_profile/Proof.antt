@@ -1,5 +1,5 @@
 -- The verdict, and the pages where it is yes.
-use Rattle.lists.specs.Lists.{Lists, lists}
+use Rattle.nodes.specs.Lists.{Lists, lists}
 use Rattle.build_profile.proofs.Answered.{says-no, says-yes, yes-shows}
 use borrow.Author.Needs.{needs}
 use Rattle.build_profile.proofs.check_profile.Statement.{statement}

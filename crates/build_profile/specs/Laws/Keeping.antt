@@ -6,10 +6,10 @@ use mathlib.Core.Logic.{_⊎_, inl, inr, _↔_}
 use lib.Dec.{eqb}
 use lib.ListN.{getD}
 use borrow.Author.Tests.{eqb-true, eq-eqb}
-use Rattle.refusal.specs.Laws.Bools.{either, unlike, or-told}
-use Rattle.refusal.specs.declared.Opt.{Opt}
-use Rattle.refusal.specs.declared.Opt.the-variants.{None, Some}
-use Rattle.lists.specs.Lists.{Lists}
+use Rattle.prelude.specs.Laws.Bools.{either, unlike, or-told}
+use Rattle.prelude.specs.declared.Opt.{Opt}
+use Rattle.prelude.specs.declared.Opt.the-variants.{None, Some}
+use Rattle.nodes.specs.Lists.{Lists}
 use Rattle.build_profile.specs.RuleLaws.{Every}
 use Rattle.build_profile.specs.Rules.{onPage, wholePages, unitKept, numberIn}
 

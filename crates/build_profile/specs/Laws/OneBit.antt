@@ -6,7 +6,7 @@ use native.Mathlib.Omega.{arith}
 use lib.Count.{ones, ones-step, ones-cat}
 use lib.Dec.{eqb}
 use borrow.Author.Tests.{eqb-true, eqb-false}
-use Rattle.refusal.specs.Laws.Bools.{either}
+use Rattle.prelude.specs.Laws.Bools.{either}
 use Rattle.build_profile.specs.OneBit.{OneSet, bit}
 
 lowest : (n : ℕ) → bit n 0 ≡ n % 2

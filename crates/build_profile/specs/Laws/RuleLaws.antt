@@ -5,12 +5,12 @@ use mathlib.Core.Bool.{Bool, true, false, not}
 use mathlib.Core.Logic.{_↔_}
 use native.Mathlib.Omega.{arith}
 use borrow.Author.Tests.{le-leb, lt-leb, leb-true, leb-false, not-true, not-false}
-use Rattle.refusal.specs.declared.Refusal.the-variants.{OffProfile}
-use Rattle.refusal.specs.declared.Verdict.{Verdict}
-use Rattle.refusal.specs.declared.Verdict.the-variants.{Accepted, Refused}
-use Rattle.refusal.specs.Laws.Bools.{either, clash}
+use Rattle.prelude.specs.declared.Refusal.the-variants.{OffProfile}
+use Rattle.prelude.specs.declared.Verdict.{Verdict}
+use Rattle.prelude.specs.declared.Verdict.the-variants.{Accepted, Refused}
+use Rattle.prelude.specs.Laws.Bools.{either, clash}
 use Rattle.resolver.specs.Laws.Least.{first-least, first-found, first-from, first-at}
-use Rattle.lists.specs.Lists.{firstOf}
+use Rattle.nodes.specs.Lists.{firstOf}
 use Rattle.build_profile.specs.Rules.{firstBroken, all, ruled}
 use Rattle.build_profile.specs.RuleLaws.{Every, First}
 

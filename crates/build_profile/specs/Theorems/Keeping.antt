@@ -6,11 +6,11 @@ use mathlib.Core.Logic.{_↔_}
 use lib.Dec.{eqb}
 use lib.ListN.{getD}
 use borrow.Author.Tests.{eqb-true, eqb-false, eq-eqb}
-use Rattle.refusal.specs.Laws.Bools.{either}
-use Rattle.refusal.specs.declared.Opt.{Opt}
-use Rattle.refusal.specs.declared.Opt.the-variants.{None, Some}
+use Rattle.prelude.specs.Laws.Bools.{either}
+use Rattle.prelude.specs.declared.Opt.{Opt}
+use Rattle.prelude.specs.declared.Opt.the-variants.{None, Some}
 use Rattle.bankdef.specs.declared.Bankdefs.{Bankdefs}
-use Rattle.lists.specs.Lists.{Lists}
+use Rattle.nodes.specs.Lists.{Lists}
 use Rattle.resolver.specs.Once.{bankRecord}
 use Rattle.build_profile.specs.Theorems.OneBit.{one-bit-exactly}
 use Rattle.build_profile.specs.Laws.RuleLaws.{kept-all, all-kept}

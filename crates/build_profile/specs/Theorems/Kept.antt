@@ -3,11 +3,11 @@ use Prim.Native.Nat.{ℕ}
 use mathlib.Core.Path.{_≡_, subst}
 use lib.ListN.{length}
 use native.Mathlib.Omega.{arith}
-use Rattle.refusal.specs.Laws.Bools.{unlike}
-use Rattle.refusal.specs.declared.Verdict.{Verdict}
-use Rattle.refusal.specs.declared.Verdict.the-variants.{Accepted}
+use Rattle.prelude.specs.Laws.Bools.{unlike}
+use Rattle.prelude.specs.declared.Verdict.{Verdict}
+use Rattle.prelude.specs.declared.Verdict.the-variants.{Accepted}
 use Rattle.bankdef.specs.declared.Bankdefs.{Bankdefs}
-use Rattle.lists.specs.Lists.{Lists, firstOf}
+use Rattle.nodes.specs.Lists.{Lists, firstOf}
 use Rattle.resolver.specs.Once.{bankRecord}
 use Rattle.build_profile.specs.Keeping.{LabelAligned, AlignKept, OffsetKept, SizeKept, UnitKept, AddrKept}
 use Rattle.build_profile.specs.Theorems.Keeping.{label-tells, align-tells, offset-tells, size-tells, unit-tells, addr-tells}

@@ -2,7 +2,7 @@
 use Prim.Native.Nat.{ℕ, _-_}
 use mathlib.Core.Path.{_≡_}
 use lib.ListN.{getD}
-use Rattle.refusal.specs.Limits.{maxBanks}
+use Rattle.prelude.specs.Limits.{maxBanks}
 use Rattle.bankdef.specs.Check.{noBank, banksOf}
 use Rattle.bankdef.specs.declared.Bankdefs.{Bankdefs}
 use Rattle.resolver.specs.Once.{bankRecord}

@@ -1,12 +1,12 @@
 -- Theorems about what Told defines.
 use Prim.Native.Nat.{ℕ}
 use mathlib.Core.Path.{_≡_, refl}
-use Rattle.refusal.specs.declared.Verdict.{Verdict}
-use Rattle.refusal.specs.declared.Verdict.the-variants.{Accepted, Refused}
+use Rattle.prelude.specs.declared.Verdict.{Verdict}
+use Rattle.prelude.specs.declared.Verdict.the-variants.{Accepted, Refused}
 use Rattle.bankdef.specs.Check.{checkOf}
 use Rattle.bankdef.specs.declared.Bankdefs.{Bankdefs}
 use Rattle.resolver.specs.Layout.{Checked}
-use Rattle.lists.specs.Lists.{Lists, listsOf, firstOf}
+use Rattle.nodes.specs.Lists.{Lists, listsOf, firstOf}
 use Rattle.build_profile.specs.Kept.{Judged, keeps, breaks}
 use Rattle.build_profile.specs.Theorems.Kept.{judged}
 use Rattle.build_profile.specs.Profile.{verdictOf, pagedBy, profileOf}

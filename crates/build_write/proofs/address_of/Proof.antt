@@ -2,7 +2,7 @@
 use mathlib.Core.Path.{sym, ap, _∙_}
 use mir.Syntax.{w64}
 use mir.ValLaws.{toZ-ofZ}
-use Rattle.build_sights.specs.Spans.{addressTold}
+use Rattle.build_visits.specs.Spans.{addressTold}
 use borrow.Author.Needs.{needs}
 use Rattle.build_write.proofs.address_of.Statement.{statement}
 use Rattle.build_write.proofs.address_of.Tie as tie

@@ -8,7 +8,7 @@ use borrow.Author.Tests.{not-true, not-false}
 use mir.Syntax.{w64}
 use mir.Val.{SFits}
 use mir.ValLaws.{toZ-ofZ}
-use Rattle.build_sights.specs.Spans.{isSpan}
+use Rattle.build_visits.specs.Spans.{isSpan}
 use borrow.Author.Needs.{needs}
 use Rattle.build_write.proofs.put_span.Statement.{statement}
 use Rattle.build_write.proofs.put_span.Tie as tie

@@ -2,7 +2,7 @@
 use mathlib.Core.Path.{_≡_, sym, _∙_}
 use mathlib.Core.Bool.{true}
 use borrow.Author.Tests.{not-true, not-false}
-use Rattle.build_sights.specs.Items.{isWritten}
+use Rattle.build_visits.specs.Items.{isWritten}
 use Rattle.build_write.proofs.WritingSteps.{item-none, item-nowhere, item-written}
 use borrow.Author.Needs.{needs}
 use Rattle.build_write.proofs.write_item.Statement.{statement}

@@ -5,9 +5,9 @@ use Prim.Native.Nat.{ℕ}
 use lib.ListN.{length}
 use borrow.Author.Needs.{needs}
 use Rattle.resolver.specs.Once.{programWith}
-use Rattle.lists.specs.Lists.{rowWith}
-use Rattle.build_sights.specs.Items.{imageOf, itemsOf}
-use Rattle.build_sights.specs.Visits.{visits}
+use Rattle.nodes.specs.Lists.{rowWith}
+use Rattle.build_visits.specs.Items.{imageOf, itemsOf}
+use Rattle.build_visits.specs.Visits.{visits}
 use Rattle.build_write.specs.Laws.Blank.{blank-length}
 use Rattle.build_write.proofs.write_row.Statement.{statement}
 use Rattle.build_write.proofs.write_row.Tie as tie

@@ -4,10 +4,10 @@ use Prim.Native.Nat.{_-_}
 use native.Mathlib.Omega.{arith}
 use lib.ListN.{length, length-map}
 use borrow.Author.Needs.{needs}
-use Rattle.lists.specs.Lists.{Row, rowWith}
+use Rattle.nodes.specs.Lists.{Row, rowWith}
 use Rattle.resolver.specs.Once.{Program, programWith}
-use Rattle.build_sights.specs.Sights.{Comes}
-use Rattle.build_sights.specs.Theorems.Sights.{in-banks, paced-position, paced-is-visit, paced-next, paced-still}
+use Rattle.build_visits.specs.Sights.{Comes}
+use Rattle.build_visits.specs.Theorems.Sights.{in-banks, paced-position, paced-is-visit, paced-next, paced-still}
 use Rattle.build_write.proofs.WritingSteps.{Writing, begins, goes-on, ends, item-fits, spans-fit, same-image, same-first, same-second, same-third}
 use Rattle.build_write.proofs.write_walk.Statement.{statement}
 use Rattle.build_write.proofs.write_walk.Tie as tie

@@ -7,7 +7,7 @@ use native.Mathlib.Omega.{arith}
 use borrow.Author.Tests.{le-ltb}
 use lib.Dec.{ltb}
 use lib.ListN.{length, getD, replicate, length-replicate}
-use Rattle.refusal.specs.Pick.{pick}
+use Rattle.prelude.specs.Pick.{pick}
 use Rattle.bankdef.specs.Check.{noBank}
 use Rattle.bankdef.specs.Laws.FillBits.{fill-bit-lt}
 use Rattle.bankdef.specs.Theorems.FillBits.{bits-zero}
@@ -18,7 +18,7 @@ use Rattle.bitvec.specs.Laws.Bits.{bitAt-past}
 use Rattle.bitvec.specs.Theorems.Bits.{length-ofBits, bitAt-ofBits, bytes-ofBits, same-bits}
 use Rattle.bitvec.specs.Numeral.{Bits}
 use Rattle.bitvec.specs.Laws.Numeral.{pick-lt}
-use Rattle.build_sights.specs.Laws.ItemLaws.{zeros-bit, zeros-bytes}
+use Rattle.build_visits.specs.Laws.ItemLaws.{zeros-bit, zeros-bytes}
 use Rattle.build_write.specs.Blank.{blankBit, blankOf}
 
 module _ (banks : List Bankdef) (bits bytes : ℕ) where

@@ -1,9 +1,9 @@
 -- Laws that Theorems/Paged rests on.
 use mathlib.Core.Path.{_≡_, refl, sym, ap, _∙_}
 use Prim.Native.Nat.{ℕ}
-use Rattle.refusal.specs.declared.Opt.the-variants.{Some}
-use Rattle.refusal.specs.declared.Verdict.{Verdict}
-use Rattle.refusal.specs.declared.Verdict.the-variants.{Accepted, Refused}
+use Rattle.prelude.specs.declared.Opt.the-variants.{Some}
+use Rattle.prelude.specs.declared.Verdict.{Verdict}
+use Rattle.prelude.specs.declared.Verdict.the-variants.{Accepted, Refused}
 use Rattle.output.specs.Output.{Input, Lent, roomOf, buildOf}
 use Rattle.output.specs.declared.Output.{Output}
 use Rattle.build_paged.specs.InProfile.{outcome, leaves, builtOf, saidOf, afterYes, builtInProfile, BuildsInProfile}

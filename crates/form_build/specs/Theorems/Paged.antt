@@ -1,9 +1,9 @@
 -- Theorems about what Paged defines.
 use mathlib.Core.Path.{_≡_, sym, subst}
 use Prim.Native.Nat.{ℕ}
-use Rattle.refusal.specs.Laws.Pick.{determined}
-use Rattle.refusal.specs.declared.Opt.{Opt}
-use Rattle.refusal.specs.declared.Opt.the-variants.{None, Some}
+use Rattle.prelude.specs.Laws.Pick.{determined}
+use Rattle.prelude.specs.declared.Opt.{Opt}
+use Rattle.prelude.specs.declared.Opt.the-variants.{None, Some}
 use Rattle.output.specs.Output.{Input, Lent, Builds}
 use Rattle.output.specs.declared.Output.{Output}
 use Rattle.build_paged.specs.InProfile.{BuildsInProfile}

@@ -2,8 +2,8 @@
 use mathlib.Core.Path.{_≡_}
 use mathlib.Core.List.{List}
 use Prim.Native.Nat.{ℕ}
-use Rattle.refusal.specs.Laws.Pick.{determined}
-use Rattle.refusal.specs.declared.Opt.{Opt}
+use Rattle.prelude.specs.Laws.Pick.{determined}
+use Rattle.prelude.specs.declared.Opt.{Opt}
 use Rattle.output.specs.Output.{Lent}
 use Rattle.output.specs.declared.Output.{Output}
 use Rattle.form_build.specs.Filed.{FileBuilt}

@@ -6,7 +6,7 @@ use borrow.Author.Needs.{needs}
 use borrow.Author.Tests.{not-true, not-false}
 use native.Mathlib.Omega.{arith}
 use lib.ListN.{length}
-use Rattle.refusal.specs.declared.Refusal.the-variants.{Malformed}
+use Rattle.prelude.specs.declared.Refusal.the-variants.{Malformed}
 use Rattle.form_fields.specs.declared.Form.the-variants.{Broken}
 use Rattle.form_fields.specs.Fields.{fieldAt}
 use Rattle.form_fields.specs.Laws.Fields.{field-ends}

@@ -6,7 +6,7 @@ use Prim.Native.Nat.{ℕ, _*_, _≤_, _<_}
 use lib.Dec.{eqb}
 use lib.ListN.{length}
 use native.Mathlib.Omega.{arith}
-use Rattle.refusal.specs.Laws.Bools.{both}
+use Rattle.prelude.specs.Laws.Bools.{both}
 use Rattle.form_fields.specs.declared.Kind.{Kind}
 use Rattle.form_fields.specs.Fields.{fieldAt}
 use Rattle.form_fields.specs.Laws.Fields.{field-ends}

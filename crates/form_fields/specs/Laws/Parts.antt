@@ -12,9 +12,9 @@ use borrow.Author.Tests.{le-leb}
 use mir.Syntax.{w64}
 use mir.Val.{toZ, ofZ}
 use mir.ValLaws.{toZ-ofZ}
-use Rattle.refusal.specs.Pick.{pick}
-use Rattle.refusal.specs.declared.Opt.{Opt}
-use Rattle.refusal.specs.declared.Opt.the-variants.{None, Some}
+use Rattle.prelude.specs.Pick.{pick}
+use Rattle.prelude.specs.declared.Opt.{Opt}
+use Rattle.prelude.specs.declared.Opt.the-variants.{None, Some}
 use Rattle.bankdef.specs.Numbers.{fillBit}
 use Rattle.bankdef.specs.declared.Bankdef.{Bankdef}
 use Rattle.form_fields.specs.declared.Kind.{Kind}

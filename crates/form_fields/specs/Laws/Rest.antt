@@ -7,9 +7,9 @@ use native.Mathlib.Omega.{arith}
 use lib.ListN.{length}
 use lib.Dec.{ltb}
 use borrow.Author.Tests.{lt-ltb, le-ltb, lt-leb, ltb-true, ltb-false}
-use Rattle.refusal.specs.Laws.Bools.{unlike}
-use Rattle.refusal.specs.declared.Refusal.{Refusal}
-use Rattle.refusal.specs.declared.Refusal.the-variants.{Malformed}
+use Rattle.prelude.specs.Laws.Bools.{unlike}
+use Rattle.prelude.specs.declared.Refusal.{Refusal}
+use Rattle.prelude.specs.declared.Refusal.the-variants.{Malformed}
 use Rattle.form_fields.specs.declared.Kind.{Kind}
 use Rattle.form_fields.specs.declared.Shape.{Shape}
 use Rattle.form_fields.specs.declared.Form.the-variants.{Sound, Broken}

@@ -8,7 +8,7 @@ use lib.Dec.{eqb}
 use lib.ListN.{length, getD, take, drop, length-drop, take-append-drop, drop-of-length-le}
 use lib.Seq.{length-take-le, drop-cons, drop-drop, take-at, getD-take, getD-drop}
 use borrow.Author.Tests.{eqb-true}
-use Rattle.refusal.specs.Laws.Bools.{both}
+use Rattle.prelude.specs.Laws.Bools.{both}
 use Rattle.form_fields.specs.declared.Form.the-variants.{Sound}
 use Rattle.form_fields.specs.declared.Kind.{Kind}
 use Rattle.form_fields.specs.declared.Shape.{Shape}

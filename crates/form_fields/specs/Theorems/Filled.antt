@@ -5,8 +5,8 @@ use Prim.Native.Nat.{ℕ, _+_, _*_, _≤_, _<_}
 use lib.ListN.{length, drop}
 use lib.Seq.{paste}
 use borrow.Author.Tests.{le-leb, lt-leb}
-use Rattle.refusal.specs.declared.Refusal.the-variants.{Malformed}
-use Rattle.refusal.specs.declared.Verdict.the-variants.{Accepted, Refused}
+use Rattle.prelude.specs.declared.Refusal.the-variants.{Malformed}
+use Rattle.prelude.specs.declared.Verdict.the-variants.{Accepted, Refused}
 use Rattle.form_fields.specs.declared.Shape.{Shape}
 use Rattle.form_fields.specs.declared.Form.the-variants.{Sound}
 use Rattle.form_fields.specs.Columns.{column}

@@ -3,7 +3,7 @@ use mathlib.Core.Bool.{Bool, true, false}
 use mathlib.Core.List.{List}
 use mathlib.Core.Path.{_≡_, refl}
 use Prim.Native.Nat.{ℕ}
-use Rattle.refusal.specs.Pick.{pick}
+use Rattle.prelude.specs.Pick.{pick}
 use Rattle.form_fields.specs.Kind.{Known, begins2, form1, form2, headed, is1, is2, kindOf}
 
 pub kind-known : (file : List ℕ) → Known (kindOf file)

@@ -6,10 +6,10 @@ use mathlib.Core.Path.{_≡_, refl, sym, subst}
 use lib.Dec.{ltb}
 use lib.ListN.{length}
 use borrow.Author.Tests.{ltb-true, ltb-false}
-use Rattle.refusal.specs.Pick.{pick}
-use Rattle.refusal.specs.Told.{toldVerdict}
-use Rattle.refusal.specs.declared.Refusal.the-variants.{Malformed}
-use Rattle.refusal.specs.declared.Verdict.{Verdict}
+use Rattle.prelude.specs.Pick.{pick}
+use Rattle.prelude.specs.Told.{toldVerdict}
+use Rattle.prelude.specs.declared.Refusal.the-variants.{Malformed}
+use Rattle.prelude.specs.declared.Verdict.{Verdict}
 use Rattle.form_fields.specs.declared.Form.{Form}
 use Rattle.form_fields.specs.declared.Form.the-variants.{Sound, Broken}
 use Rattle.form_fields.specs.declared.Kind.{Kind}

@@ -9,8 +9,8 @@ use lib.Dec.{eqb, leb}
 use lib.ListN.{length, getD, take, drop, length-append, length-drop, length-map, List·getD-append}
 use lib.Seq.{length-take-le, getD-at, getD-take, getD-append-add}
 use borrow.Author.Tests.{eqb-true}
-use Rattle.refusal.specs.Laws.Bools.{both, clash}
-use Rattle.refusal.specs.Pick.{pick}
+use Rattle.prelude.specs.Laws.Bools.{both, clash}
+use Rattle.prelude.specs.Pick.{pick}
 use Rattle.form_fields.specs.Kind.{form1, form2, is1, is2}
 use Rattle.form_fields.specs.Contents.{Contents, written, Each, Long, BankFits, Fits}
 use Rattle.form_fields.specs.Laws.RoundTrip.{each-map, written-length}

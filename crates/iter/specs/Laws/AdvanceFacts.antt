@@ -6,11 +6,11 @@ use mathlib.Core.Logic.{_⊎_, inl, inr}
 use native.Mathlib.Omega.{arith}
 use lib.Dec.{leb}
 use borrow.Author.Tests.{leb-true, le-ltb}
-use Rattle.refusal.specs.Laws.Bools.{either}
-use Rattle.refusal.specs.Refusals.{numberOf}
-use Rattle.refusal.specs.Told.{Told, gives, refuses, toldNumber}
-use Rattle.refusal.specs.declared.Place.{Place}
-use Rattle.refusal.specs.declared.Refusal.{Refusal}
+use Rattle.prelude.specs.Laws.Bools.{either}
+use Rattle.prelude.specs.Refusals.{numberOf}
+use Rattle.prelude.specs.Told.{Told, gives, refuses, toldNumber}
+use Rattle.prelude.specs.declared.Place.{Place}
+use Rattle.prelude.specs.declared.Refusal.{Refusal}
 use Rattle.bankdef.specs.declared.Bankdef.{Bankdef}
 use Rattle.iter.specs.Distance.{distanceOf}
 use Rattle.iter.specs.Figures as told
@@ -20,7 +20,7 @@ use Rattle.iter.specs.Theorems.ToldFacts.{distance-told}
 use Rattle.iter.specs.declared.Distance.{Distance}
 use Rattle.iter.specs.declared.Distance.the-variants.{Refused as NoDistance}
 use Rattle.iter.specs.declared.Skipped.{Skipped}
-use Rattle.lists.specs.declared.Node.{Node}
+use Rattle.nodes.specs.declared.Node.{Node}
 use Rattle.iter.specs.declared.Pos.{Pos}
 
 pub gives-same : {p q : Pos} → gives p ≡ gives q → p ≡ q

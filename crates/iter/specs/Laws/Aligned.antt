@@ -8,9 +8,9 @@ use native.Mathlib.Omega.{arith}
 use lib.Dec.{eqb, ltb}
 use lib.IntN.{ℤ, pos, negsuc, negℤ, subℕ, _*ℤ_}
 use borrow.Author.Tests.{ltb-true, ltb-false, lt-ltb, le-ltb, eqb-true, eqb-false, ne-eqb}
-use Rattle.refusal.specs.Laws.Bools.{either, unlike}
-use Rattle.refusal.specs.Pick.{pick}
-use Rattle.refusal.specs.declared.Refusal.{Refusal}
+use Rattle.prelude.specs.Laws.Bools.{either, unlike}
+use Rattle.prelude.specs.Pick.{pick}
+use Rattle.prelude.specs.declared.Refusal.{Refusal}
 use Rattle.bankdef.specs.declared.Bankdef.{Bankdef}
 use Rattle.iter.specs.Distance.{skipsOf, noSkip}
 use Rattle.iter.specs.declared.Distance.the-variants.{Skips, Refused}

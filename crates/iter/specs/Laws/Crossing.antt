@@ -6,11 +6,11 @@ use mathlib.Core.List.{List, [], _∷_}
 use native.Mathlib.Nat.{le-of-suc-le-suc}
 use native.Mathlib.Omega.{arith}
 use lib.ListN.{getD, length}
-use Rattle.refusal.specs.Laws.Bools.{unlike}
-use Rattle.refusal.specs.Pick.{pick}
-use Rattle.refusal.specs.Laws.Pick.{pick-true}
-use Rattle.refusal.specs.declared.Refusal.{Refusal}
-use Rattle.refusal.specs.declared.Refusal.the-variants.{Malformed}
+use Rattle.prelude.specs.Laws.Bools.{unlike}
+use Rattle.prelude.specs.Pick.{pick}
+use Rattle.prelude.specs.Laws.Pick.{pick-true}
+use Rattle.prelude.specs.declared.Refusal.{Refusal}
+use Rattle.prelude.specs.declared.Refusal.the-variants.{Malformed}
 use Rattle.bankdef.specs.declared.Bankdef.{Bankdef}
 use Rattle.iter.specs.Theorems.Advance.{sound-state, early}
 use Rattle.iter.specs.Distance.{noSkip}
@@ -19,7 +19,7 @@ use Rattle.iter.specs.Laws.StepFacts.{sees-plain}
 use Rattle.iter.specs.declared.Crossing.{Crossing}
 use Rattle.iter.specs.declared.Moved.{Moved}
 use Rattle.iter.specs.declared.Moved.the-variants.{To, Refused}
-use Rattle.lists.specs.declared.Node.{Node}
+use Rattle.nodes.specs.declared.Node.{Node}
 use Rattle.iter.specs.declared.Pos.{Pos}
 use Rattle.iter.specs.declared.Skipped.{Skipped}
 use Rattle.iter.specs.declared.Walk.{Walk}

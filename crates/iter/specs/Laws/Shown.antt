@@ -1,9 +1,9 @@
 -- What a step reads of a bank's record: a record with that alone makes the same step.
 use mathlib.Core.Path.{_≡_, refl, ap, _∙_}
-use Rattle.refusal.specs.Pick.{pick}
-use Rattle.refusal.specs.declared.Opt.{Opt}
-use Rattle.refusal.specs.declared.Opt.the-variants.{None, Some}
-use Rattle.refusal.specs.declared.Refusal.the-variants.{Malformed}
+use Rattle.prelude.specs.Pick.{pick}
+use Rattle.prelude.specs.declared.Opt.{Opt}
+use Rattle.prelude.specs.declared.Opt.the-variants.{None, Some}
+use Rattle.prelude.specs.declared.Refusal.the-variants.{Malformed}
 use Rattle.bankdef.specs.declared.Bankdef.{Bankdef}
 use Rattle.iter.specs.Crossing.{crossingOf, halted, crossedTo, crossedFrom}
 use Rattle.iter.specs.Distance.{noSkip, distanceOf}
@@ -13,7 +13,7 @@ use Rattle.iter.specs.Step.{labelAligned, whenMade, labelSkips, counted,
 use Rattle.iter.specs.declared.Crossing.{Crossing}
 use Rattle.iter.specs.declared.Moved.{Moved}
 use Rattle.iter.specs.declared.Moved.the-variants.{To, Refused}
-use Rattle.lists.specs.declared.Node.{Node}
+use Rattle.nodes.specs.declared.Node.{Node}
 use Rattle.iter.specs.declared.Paced.{Paced}
 use Rattle.iter.specs.declared.Pos.{Pos}
 use Rattle.iter.specs.declared.Skipped.{Skipped}

@@ -1,13 +1,13 @@
 -- Laws that Theorems/StepFacts rests on.
 use mathlib.Core.Path.{_≡_}
 use mathlib.Core.Bool.{false}
-use Rattle.refusal.specs.Laws.Bools.{unlike}
-use Rattle.refusal.specs.Laws.Pick.{pick-false}
-use Rattle.refusal.specs.declared.Refusal.{Refusal}
+use Rattle.prelude.specs.Laws.Bools.{unlike}
+use Rattle.prelude.specs.Laws.Pick.{pick-false}
+use Rattle.prelude.specs.declared.Refusal.{Refusal}
 use Rattle.bankdef.specs.declared.Bankdef.{Bankdef}
 use Rattle.iter.specs.Step.{outermostSymbol, seenOf}
 use Rattle.iter.specs.declared.Pos.{Pos}
-use Rattle.lists.specs.declared.Node.{Node}
+use Rattle.nodes.specs.declared.Node.{Node}
 use Rattle.iter.specs.declared.Moved.the-variants.{To, Refused}
 
 pub never : (p : Pos) (why : Refusal) → To p ≡ Refused why → ⊥

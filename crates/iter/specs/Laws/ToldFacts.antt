@@ -5,8 +5,8 @@ use mathlib.Core.Bool.{Bool, true, not}
 use native.Mathlib.Omega.{arith}
 use lib.Dec.{eqb, leb}
 use borrow.Author.Tests.{leb-true, leb-false, eqb-false, not-true}
-use Rattle.refusal.specs.Laws.Bools.{either, both}
-use Rattle.refusal.specs.Limits.{maxPosition}
+use Rattle.prelude.specs.Laws.Bools.{either, both}
+use Rattle.prelude.specs.Limits.{maxPosition}
 use Rattle.bankdef.specs.declared.Bankdef.{Bankdef}
 use Rattle.iter.specs.Distance.{tellable, noSkip, distanceOf}
 use Rattle.iter.specs.Figures as told

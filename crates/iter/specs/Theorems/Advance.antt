@@ -5,16 +5,16 @@ use mathlib.Core.Bool.{true, false}
 use mathlib.Core.Logic.{inl, inr}
 use native.Mathlib.Decide.{decLe}
 use native.Mathlib.Omega.{arith}
-use Rattle.refusal.specs.Laws.Pick.{pick-true, pick-false}
-use Rattle.refusal.specs.declared.Refusal.the-variants.{Malformed}
+use Rattle.prelude.specs.Laws.Pick.{pick-true, pick-false}
+use Rattle.prelude.specs.declared.Refusal.the-variants.{Malformed}
 use Rattle.bankdef.specs.declared.Bankdef.{Bankdef}
 use Rattle.iter.specs.Known.{staysKnown}
 use Rattle.iter.specs.Step.{movedBy, alignedTo, resolved, badState, movedOn, advancedOf}
 use Rattle.iter.specs.declared.Pos.{Pos}
-use Rattle.lists.specs.declared.Node.{Node}
-use Rattle.lists.specs.declared.kinds.Doing.{Doing}
-use Rattle.lists.specs.Kinds.{doesOf, byDoing}
-use Rattle.lists.specs.Laws.Kinds.{does-stay, does-switch, does-mark, does-add, does-align, does-set, does-nothing-known}
+use Rattle.nodes.specs.declared.Node.{Node}
+use Rattle.nodes.specs.declared.kinds.Doing.{Doing}
+use Rattle.nodes.specs.Kinds.{doesOf, byDoing}
+use Rattle.nodes.specs.Laws.Kinds.{does-stay, does-switch, does-mark, does-add, does-align, does-set, does-nothing-known}
 use Rattle.iter.specs.declared.Moved.{Moved}
 use Rattle.iter.specs.declared.Moved.the-variants.{To, Refused}
 

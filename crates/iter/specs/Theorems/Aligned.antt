@@ -7,9 +7,9 @@ use native.Mathlib.Omega.{arith}
 use lib.Dec.{eqb}
 use lib.IntN.{ℤ, pos, negsuc, negℤ, subℕ, _+ℤ_}
 use borrow.Author.Tests.{eqb-true, eqb-false, ne-eqb}
-use Rattle.refusal.specs.Laws.Bools.{either}
-use Rattle.refusal.specs.Laws.Pick.{pick-true, pick-false}
-use Rattle.refusal.specs.declared.Refusal.the-variants.{Malformed}
+use Rattle.prelude.specs.Laws.Bools.{either}
+use Rattle.prelude.specs.Laws.Pick.{pick-true, pick-false}
+use Rattle.prelude.specs.declared.Refusal.the-variants.{Malformed}
 use Rattle.bankdef.specs.declared.Bankdef.{Bankdef}
 use Rattle.iter.specs.Distance.{tellable, addressInBits, gap, remainder, distanceTo, skipsOf, noSkip, distanceOf}
 use Rattle.iter.specs.Laws.Signs.{neg-plus}

@@ -7,11 +7,11 @@ use lib.Dec.{leb, eqb}
 use lib.ListN.{getD, set}
 use lib.Seq.{set-getD}
 use borrow.Author.Tests.{le-leb, lt-leb, eqb-true, eqb-false}
-use Rattle.refusal.specs.Laws.Bools.{either}
-use Rattle.refusal.specs.Limits.{maxBanks}
-use Rattle.refusal.specs.Pick.{pick}
-use Rattle.refusal.specs.Laws.Pick.{pick-true, pick-false}
-use Rattle.refusal.specs.declared.Refusal.the-variants.{Malformed}
+use Rattle.prelude.specs.Laws.Bools.{either}
+use Rattle.prelude.specs.Limits.{maxBanks}
+use Rattle.prelude.specs.Pick.{pick}
+use Rattle.prelude.specs.Laws.Pick.{pick-true, pick-false}
+use Rattle.prelude.specs.declared.Refusal.the-variants.{Malformed}
 use Rattle.bankdef.specs.declared.Bankdef.{Bankdef}
 use Rattle.iter.specs.Padding.{Fits, the-bits, the-units}
 use Rattle.iter.specs.Distance.{noSkip}
@@ -21,7 +21,7 @@ use Rattle.iter.specs.declared.Crossing.{Crossing}
 use Rattle.iter.specs.declared.Lost.{Lost}
 use Rattle.iter.specs.declared.Moved.{Moved}
 use Rattle.iter.specs.declared.Moved.the-variants.{To, Refused}
-use Rattle.lists.specs.declared.Node.{Node}
+use Rattle.nodes.specs.declared.Node.{Node}
 use Rattle.iter.specs.declared.Pos.{Pos}
 use Rattle.iter.specs.declared.Stepped.{Stepped}
 use Rattle.iter.specs.declared.Walk.{Walk}

@@ -3,9 +3,9 @@ use Prim.Native.Nat.{ℕ, _+_, _/_, _^_, _<_}
 use mathlib.Core.Path.{_≡_, refl, sym, ap, subst, _∙_}
 use native.Mathlib.Omega.{arith}
 use borrow.Author.Tests.{le-leb}
-use Rattle.refusal.specs.Laws.Bools.{either}
-use Rattle.refusal.specs.Limits.{maxBanks}
-use Rattle.refusal.specs.Laws.Pick.{pick-true}
+use Rattle.prelude.specs.Laws.Bools.{either}
+use Rattle.prelude.specs.Limits.{maxBanks}
+use Rattle.prelude.specs.Laws.Pick.{pick-true}
 use Rattle.bankdef.specs.declared.Bankdef.{Bankdef}
 use Rattle.iter.specs.Theorems.Aligned.{four-when, told-when}
 use Rattle.iter.specs.Laws.Aligned.{skips-same, never}
@@ -14,7 +14,7 @@ use Rattle.iter.specs.Step.{startOf}
 use Rattle.iter.specs.Step.{maxSum, sumAfter}
 use Rattle.iter.specs.declared.Distance.the-variants.{Skips}
 use Rattle.iter.specs.declared.Lost.{Lost}
-use Rattle.lists.specs.declared.Node.{Node}
+use Rattle.nodes.specs.declared.Node.{Node}
 use Rattle.iter.specs.declared.Skipped.{Skipped}
 use Rattle.iter.specs.declared.Walk.{Walk}
 use Rattle.iter.specs.Laws.Padding.{none-yet}

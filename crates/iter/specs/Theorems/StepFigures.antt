@@ -4,8 +4,8 @@ use mathlib.Core.Path.{_≡_, refl, sym, subst}
 use mathlib.Core.Bool.{true, false}
 use lib.Dec.{eqb, ltb, leb}
 use borrow.Author.Tests.{leb-true, leb-false, ltb-true, eqb-true, eqb-false}
-use Rattle.refusal.specs.Laws.Bools.{either, both, neither}
-use Rattle.refusal.specs.Limits.{maxBanks}
+use Rattle.prelude.specs.Laws.Bools.{either, both, neither}
+use Rattle.prelude.specs.Limits.{maxBanks}
 use Rattle.bankdef.specs.declared.Bankdef.{Bankdef}
 use Rattle.iter.specs.Laws.Advance as law
 use Rattle.iter.specs.Figures.{toldMoved, Sees, SoundState, Advances, SightSkips, OwnSkips}
@@ -14,7 +14,7 @@ use Rattle.iter.specs.StepCases.{standing}
 use Rattle.iter.specs.Theorems.ToldFacts.{sound-of, sight-told, sight-skips, advance-told, own-skips}
 use Rattle.iter.specs.declared.Moved.{Moved}
 use Rattle.iter.specs.declared.Moved.the-variants.{To, Refused}
-use Rattle.lists.specs.declared.Node.{Node}
+use Rattle.nodes.specs.declared.Node.{Node}
 use Rattle.iter.specs.declared.Pos.{Pos}
 use Rattle.iter.specs.declared.Walk.{Walk}
 use Rattle.iter.specs.StepFigures.{Counts, StepTold, badly, bankOf, blind, made, nowhere, own, sight, stuck}

@@ -3,7 +3,7 @@ use mathlib.Core.Path.{_≡_, sym}
 use mathlib.Core.Bool.{true, false}
 use lib.IntN.{natAbs}
 use borrow.Author.Tests.{le-leb}
-use Rattle.refusal.specs.Limits.{maxStart}
+use Rattle.prelude.specs.Limits.{maxStart}
 use Rattle.bankdef.specs.Numbers.{bankFault}
 use Rattle.bankdef.specs.Theorems.Numbers.{sound-bank}
 use Rattle.bankdef.specs.declared.Bankdef.{Bankdef}

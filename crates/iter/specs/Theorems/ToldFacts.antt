@@ -8,12 +8,12 @@ use native.Mathlib.Nat.{zero-div, suc-mul, div-mul-le-self, lt-div-mul-add}
 use native.Mathlib.Omega.{arith}
 use lib.Dec.{eqb, ltb, leb}
 use borrow.Author.Tests.{ltb-true, ltb-false, leb-true, eqb-true, eqb-false, eq-eqb, ne-eqb, le-leb}
-use Rattle.refusal.specs.Laws.Bools.{either, clash, both}
-use Rattle.refusal.specs.Pick.{pick}
-use Rattle.refusal.specs.Laws.Pick.{pick-true, pick-false}
-use Rattle.refusal.specs.declared.Opt.{Opt}
-use Rattle.refusal.specs.declared.Opt.the-variants.{None, Some}
-use Rattle.refusal.specs.declared.Refusal.the-variants.{Malformed}
+use Rattle.prelude.specs.Laws.Bools.{either, clash, both}
+use Rattle.prelude.specs.Pick.{pick}
+use Rattle.prelude.specs.Laws.Pick.{pick-true, pick-false}
+use Rattle.prelude.specs.declared.Opt.{Opt}
+use Rattle.prelude.specs.declared.Opt.the-variants.{None, Some}
+use Rattle.prelude.specs.declared.Refusal.the-variants.{Malformed}
 use Rattle.bankdef.specs.declared.Bankdef.{Bankdef}
 use Rattle.iter.specs.Address.{unitsFrom, addressOf}
 use Rattle.iter.specs.Theorems.Advance.{bad-state, sound-state, early, item, aligning, setting, asserting, other}
@@ -30,7 +30,7 @@ use Rattle.iter.specs.declared.Distance.the-variants.{Skips, Refused as 
 use Rattle.iter.specs.declared.Address.{Address}
 use Rattle.iter.specs.declared.Address.the-variants.{At, Refused as NoAddress}
 use Rattle.iter.specs.declared.Moved.{Moved}
-use Rattle.lists.specs.declared.Node.{Node}
+use Rattle.nodes.specs.declared.Node.{Node}
 use Rattle.iter.specs.declared.Pos.{Pos}
 use Rattle.iter.specs.Laws.ToldFacts.{added, aligning-told, has-unit, none-skipped, skipping-told}
 

@@ -2,13 +2,13 @@
 use Prim.Native.Nat.{ℕ, _≤_}
 use mathlib.Core.Path.{subst}
 use mathlib.Core.List.{List, [], _∷_}
-use Rattle.refusal.specs.Limits.{maxBanks, maxPosition}
+use Rattle.prelude.specs.Limits.{maxBanks, maxPosition}
 use Rattle.bankdef.specs.declared.Bankdef.{Bankdef}
 use Rattle.iter.specs.Step.{origin, startOf}
 use Rattle.iter.specs.Step.{bankAfter, stepOf}
 use Rattle.iter.specs.StepCases.{standing}
 use Rattle.iter.specs.Laws.StepCases.{step-cases}
-use Rattle.lists.specs.declared.Node.{Node}
+use Rattle.nodes.specs.declared.Node.{Node}
 use Rattle.iter.specs.declared.Walk.{Walk}
 use Rattle.iter.specs.declared.Stepped.{Stepped}
 use Rattle.iter.specs.Laws.WithinLimit.{Numbers, Within, advanced-within, origins, seen-within, set-all}

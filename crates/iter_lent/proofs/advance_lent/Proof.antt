@@ -49,9 +49,9 @@ use Rattle.iter.proofs.Paced.Laws as An′
 use Rattle.iter.specs.declared.Pos.{Pos}
 use Rattle.iter.proofs.Pos as P
 use Rattle.iter.proofs.Pos.Laws as P′
-use Rattle.lists.specs.declared.Node.{Node}
-use Rattle.lists.proofs.Node as N
-use Rattle.lists.proofs.Node.Laws as N′
+use Rattle.nodes.specs.declared.Node.{Node}
+use Rattle.nodes.proofs.Node as N
+use Rattle.nodes.proofs.Node.Laws as N′
 use Rattle.iter_lent.specs.Lent.{leftBy}
 use Rattle.iter_lent.specs.declared.Left.{Left}
 use Rattle.iter_lent.proofs.Left as L

@@ -9,11 +9,11 @@ use lib.Dec.{leb}
 use borrow.Author.Tests.{leb-true, leb-false}
 use lib.ListN.{length, getD, length-take}
 use lib.Seq.{getD-take}
-use Rattle.refusal.specs.Laws.Bools.{either, both}
-use Rattle.refusal.specs.Told.{gives, refuses, nothing, toldVerdict}
-use Rattle.refusal.specs.declared.Opt.the-variants.{Some}
-use Rattle.refusal.specs.declared.Place.the-variants.{One, Two}
-use Rattle.refusal.specs.declared.Verdict.{Verdict}
+use Rattle.prelude.specs.Laws.Bools.{either, both}
+use Rattle.prelude.specs.Told.{gives, refuses, nothing, toldVerdict}
+use Rattle.prelude.specs.declared.Opt.the-variants.{Some}
+use Rattle.prelude.specs.declared.Place.the-variants.{One, Two}
+use Rattle.prelude.specs.declared.Verdict.{Verdict}
 use Rattle.bankdef.specs.declared.Bankdef.{Bankdef}
 use Rattle.bankdef.specs.declared.Bankdefs.{Bankdefs}
 use Rattle.bankdef.specs.Check.{noBank, banksOf, countSound, checkOf}

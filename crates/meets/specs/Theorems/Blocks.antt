@@ -11,11 +11,11 @@ use borrow.Author.Tests.{le-leb, lt-leb, leb-false, eq-eqb, ne-eqb, eqb-true, eq
 use lib.Dec.{leb, eqb}
 use lib.ListN.{length, getD, drop, drop-of-length-le, length-map, List·getD-map}
 use lib.Seq.{drop-cons}
-use Rattle.refusal.specs.Laws.Bools.{either, clash, unlike}
-use Rattle.refusal.specs.Refusals.{numberOf, placeOf}
-use Rattle.refusal.specs.Told.{gives, refuses}
-use Rattle.refusal.specs.declared.Offset.the-variants.{At as Placed}
-use Rattle.refusal.specs.declared.Place.the-variants.{One}
+use Rattle.prelude.specs.Laws.Bools.{either, clash, unlike}
+use Rattle.prelude.specs.Refusals.{numberOf, placeOf}
+use Rattle.prelude.specs.Told.{gives, refuses}
+use Rattle.prelude.specs.declared.Offset.the-variants.{At as Placed}
+use Rattle.prelude.specs.declared.Place.the-variants.{One}
 use Rattle.sort.specs.Laws.Agree.{sorted-map}
 use Rattle.sort.specs.Numbers.{numbersFrom, numbersOf, keyAt, order}
 use Rattle.sort.specs.Sorted.{sortedBy}

@@ -7,7 +7,7 @@ use native.Mathlib.Decide.{decLt}
 use native.Mathlib.Omega.{arith}
 use borrow.Author.Tests.{le-leb, lt-ltb}
 use lib.ListN.{length, getD}
-use Rattle.refusal.specs.Laws.Bools.{clash}
+use Rattle.prelude.specs.Laws.Bools.{clash}
 use Rattle.blocks.specs.Outcome.{origins, sizes}
 use Rattle.blocks.specs.Walk.{endOf}
 use Rattle.blocks.specs.declared.Block.{Block}

@@ -8,10 +8,10 @@ use borrow.Author.Tests.{leb-true, eq-eqb}
 use lib.Dec.{leb, ltb, eqb}
 use lib.ListN.{length, take, drop, getD, length-take, length-drop}
 use lib.Seq.{ext-getD, getD-take, getD-drop}
-use Rattle.refusal.specs.Laws.Bools.{either, unlike}
-use Rattle.refusal.specs.Laws.Pick.{pick-false}
-use Rattle.refusal.specs.Pick.{pick}
-use Rattle.refusal.specs.declared.Refusal.the-variants.{Malformed, TooShort, BadPart, PartlyCovered}
+use Rattle.prelude.specs.Laws.Bools.{either, unlike}
+use Rattle.prelude.specs.Laws.Pick.{pick-false}
+use Rattle.prelude.specs.Pick.{pick}
+use Rattle.prelude.specs.declared.Refusal.the-variants.{Malformed, TooShort, BadPart, PartlyCovered}
 use Rattle.blocks.specs.Outcome.{origins, sizes}
 use Rattle.blocks.specs.Walk.{block}
 use Rattle.blocks.specs.declared.Block.{Block}

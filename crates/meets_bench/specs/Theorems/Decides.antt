@@ -5,7 +5,7 @@ use mathlib.Core.List.{List, [], _∷_, _++_}
 use Prim.Native.Nat.{ℕ, _+_, _*_, _-_, _≤_, _<_}
 use native.Mathlib.Omega.{arith}
 use lib.ListN.{length, take, drop}
-use Rattle.refusal.specs.Laws.Bools.{clash}
+use Rattle.prelude.specs.Laws.Bools.{clash}
 use Rattle.print_text.specs.Ascii.{ascii}
 use Rattle.c_answers.specs.declared.DkFault.{DkFault}
 use Rattle.meets.specs.Laws.Words.{OneOnly, first-one}

@@ -9,13 +9,13 @@ use native.Mathlib.Omega.{arith}
 use borrow.Author.Tests.{le-leb, lt-leb, leb-true, leb-false, lt-ltb, ltb-true, ltb-false, eqb-true, eqb-false}
 use lib.Dec.{leb, ltb, eqb}
 use lib.ListN.{length, take, drop, length-map, length-take}
-use Rattle.refusal.specs.Laws.Bools.{either, clash}
-use Rattle.refusal.specs.Laws.Pick.{pick-true, pick-false}
-use Rattle.refusal.specs.Pick.{pick}
-use Rattle.refusal.specs.Refusals.{numberOf, placeOf}
-use Rattle.refusal.specs.Theorems.Told.{number-some}
-use Rattle.refusal.specs.declared.Refusal.{Refusal}
-use Rattle.refusal.specs.declared.Refusal.the-variants.{Malformed, TooShort, BadPart, PartlyCovered}
+use Rattle.prelude.specs.Laws.Bools.{either, clash}
+use Rattle.prelude.specs.Laws.Pick.{pick-true, pick-false}
+use Rattle.prelude.specs.Pick.{pick}
+use Rattle.prelude.specs.Refusals.{numberOf, placeOf}
+use Rattle.prelude.specs.Theorems.Told.{number-some}
+use Rattle.prelude.specs.declared.Refusal.{Refusal}
+use Rattle.prelude.specs.declared.Refusal.the-variants.{Malformed, TooShort, BadPart, PartlyCovered}
 use Rattle.blocks.specs.Outcome.{origins, sizes}
 use Rattle.blocks.specs.declared.Block.{Block}
 use Rattle.blocks.specs.declared.Blocks.{Blocks}
@@ -30,8 +30,8 @@ use Rattle.overlay.specs.declared.Source.the-variants.{Overlay, Released, Refus
 use Rattle.print_text.specs.Ascii.{ascii}
 use Rattle.print_text.specs.Lines.{line, placeNumbers, refusalText}
 use Rattle.record_lines.specs.Pieces.{Piece}
-use Rattle.record_fault.specs.Outcome.{faultOf}
-use Rattle.record_fault.specs.Reading.{Read, sound, faulty, readText}
+use Rattle.record_scan.specs.Outcome.{faultOf}
+use Rattle.record_scan.specs.Reading.{Read, sound, faulty, readText}
 use Rattle.record_read.specs.Given.{given, filled}
 use Rattle.record_read.specs.Laws.BlockFacts.{all-below}
 use Rattle.record_read.specs.Laws.Found.{Held, held}

@@ -9,9 +9,9 @@ use borrow.Author.Tests.{leb-true, leb-false, ltb-true, ltb-false}
 use lib.Dec.{leb, ltb}
 use lib.ListN.{length, getD, drop, length-append, length-drop, List·getD-append}
 use lib.Seq.{ext-getD}
-use Rattle.refusal.specs.Laws.Bools.{either}
-use Rattle.refusal.specs.Pick.{pick}
-use Rattle.refusal.specs.declared.Refusal.the-variants.{Malformed, TooShort}
+use Rattle.prelude.specs.Laws.Bools.{either}
+use Rattle.prelude.specs.Pick.{pick}
+use Rattle.prelude.specs.declared.Refusal.the-variants.{Malformed, TooShort}
 use Rattle.bitvec.specs.HexDigits.{digitOf, paddedBit, digitValue, digitCount, hexOf}
 use Rattle.bitvec.specs.Theorems.HexDigits.{paddedBit-own, paddedBit-past, length-hexOf, hexOf-digit, digitValue-lt, hex-kept}
 use Rattle.bitvec.specs.Numeral.{numeral}

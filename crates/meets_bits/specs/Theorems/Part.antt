@@ -9,10 +9,10 @@ use borrow.Author.Tests.{eqb-true, eqb-false}
 use lib.Dec.{eqb}
 use lib.ListN.{length, getD}
 use lib.Seq.{ext-getD}
-use Rattle.refusal.specs.Laws.Bools.{either}
-use Rattle.refusal.specs.Told.{gives, refuses, nothing, toldVerdict}
-use Rattle.refusal.specs.declared.Place.the-variants.{One}
-use Rattle.refusal.specs.declared.Verdict.{Verdict}
+use Rattle.prelude.specs.Laws.Bools.{either}
+use Rattle.prelude.specs.Told.{gives, refuses, nothing, toldVerdict}
+use Rattle.prelude.specs.declared.Place.the-variants.{One}
+use Rattle.prelude.specs.declared.Verdict.{Verdict}
 use Rattle.bitvec.specs.Part as part
 use Rattle.bitvec.specs.Part.{isPart, IsPart, Parts, Judges}
 use Rattle.bitvec.specs.Theorems.Part.{isPart-true, sixteen-exactly, part-none, part-length, part-byte}

@@ -9,7 +9,7 @@ use borrow.Author.Tests.{eqb-true, eqb-false}
 use lib.Dec.{eqb}
 use lib.ListN.{length, getD, take, length-map}
 use lib.Seq.{ext-getD, length-take-le, getD-take}
-use Rattle.refusal.specs.Laws.Bools.{either}
+use Rattle.prelude.specs.Laws.Bools.{either}
 use Rattle.sort.specs.Laws.Sorted.{le-or-lt}
 use Rattle.sort.specs.Numbers.{order}
 use Rattle.sort.specs.Order.{total}

@@ -8,8 +8,8 @@ use mathlib.Core.Logic.{_⊎_, inl, inr, ⊎-elim, _↔_}
 use Prim.Native.Nat.{ℕ, zero, suc, _+_, _-_, _≤_, _<_, min}
 use native.Mathlib.Omega.{arith}
 use lib.ListN.{length}
-use Rattle.refusal.specs.declared.Place.{Place}
-use Rattle.refusal.specs.declared.Place.the-variants.{One}
+use Rattle.prelude.specs.declared.Place.{Place}
+use Rattle.prelude.specs.declared.Place.the-variants.{One}
 use Rattle.overlap_checker.specs.Folds.{nonzero, empties}
 use Rattle.overlap_checker.specs.Interval.{interval}
 use Rattle.overlap_checker.specs.declared.Entry.{Entry}
@@ -23,8 +23,8 @@ use Rattle.output.specs.Theorems.RefusedAtNode.{refused-12-empty-exactly, refus
 use Rattle.output.specs.declared.Output.{Output}
 use Rattle.build_plan.specs.Placing.{offerOf}
 use Rattle.resolver.specs.Layout.{Checked}
-use Rattle.build_sights.specs.Visits.{seenPos, positionOf}
-use Rattle.build_sights.specs.declared.Visit.{Visit}
+use Rattle.build_visits.specs.Visits.{seenPos, positionOf}
+use Rattle.build_visits.specs.declared.Visit.{Visit}
 use Rattle.says.specs.Build as says
 use Rattle.says.specs.Build.{Given, nodes, Offer}
 use Rattle.meets_sentences.specs.Grounds.{Overlaps, Nine, Ten, Eleven}

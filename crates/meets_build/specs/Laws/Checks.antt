@@ -7,15 +7,15 @@ use native.Mathlib.Omega.{arith}
 use lib.Dec.{eqb, leb}
 use lib.ListN.{length, getD}
 use borrow.Author.Tests.{eqb-true, eqb-false, leb-true, leb-false}
-use Rattle.refusal.specs.Laws.Bools.{either, clash, both, unlike}
-use Rattle.refusal.specs.Pick.{pick}
-use Rattle.refusal.specs.Refusals.{numberOf, placeOf}
-use Rattle.refusal.specs.declared.Place.{Place}
-use Rattle.refusal.specs.declared.Place.the-variants.{One, Two}
-use Rattle.refusal.specs.declared.Refusal.{Refusal}
-use Rattle.refusal.specs.declared.Refusal.the-variants.{Malformed}
-use Rattle.refusal.specs.declared.Verdict.{Verdict}
-use Rattle.refusal.specs.declared.Verdict.the-variants.{Accepted, Refused as TurnedAway}
+use Rattle.prelude.specs.Laws.Bools.{either, clash, both, unlike}
+use Rattle.prelude.specs.Pick.{pick}
+use Rattle.prelude.specs.Refusals.{numberOf, placeOf}
+use Rattle.prelude.specs.declared.Place.{Place}
+use Rattle.prelude.specs.declared.Place.the-variants.{One, Two}
+use Rattle.prelude.specs.declared.Refusal.{Refusal}
+use Rattle.prelude.specs.declared.Refusal.the-variants.{Malformed}
+use Rattle.prelude.specs.declared.Verdict.{Verdict}
+use Rattle.prelude.specs.declared.Verdict.the-variants.{Accepted, Refused as TurnedAway}
 use Rattle.bankdef.specs.Check.{banksOf, countSound, checkOf}
 use Rattle.bankdef.specs.Check as check
 use Rattle.bankdef.specs.Numbers.{faultAt}
@@ -24,12 +24,12 @@ use Rattle.bankdef.specs.Refused as by
 use Rattle.bankdef.specs.Refused.{Decided, NoFault}
 use Rattle.bankdef.specs.Theorems.Refused.{decided}
 use Rattle.bankdef.specs.declared.Bankdefs.{Bankdefs}
-use Rattle.lists.specs.FaultExactly as faults
-use Rattle.lists.specs.Theorems.FaultExactly as faults-theorems
-use Rattle.lists.specs.FaultExactly.{FaultAt}
-use Rattle.lists.specs.Lists.{Lists, listsOf, nodesTo, nodeFault, nodeCountSound, rowCountSound, knownFill}
-use Rattle.lists.specs.Sound.{Lowest, SoundLists}
-use Rattle.lists.specs.Theorems.Sound.{lowest-node, accepted-node, accepted-lists}
+use Rattle.nodes.specs.FaultExactly as faults
+use Rattle.nodes.specs.Theorems.FaultExactly as faults-theorems
+use Rattle.nodes.specs.FaultExactly.{FaultAt}
+use Rattle.nodes.specs.Lists.{Lists, listsOf, nodesTo, nodeFault, nodeCountSound, rowCountSound, knownFill}
+use Rattle.nodes.specs.Sound.{Lowest, SoundLists}
+use Rattle.nodes.specs.Theorems.Sound.{lowest-node, accepted-node, accepted-lists}
 use Rattle.resolver.specs.Layout.{Checked, unless, layoutOf}
 use Rattle.resolver.specs.ListsExactly as at
 use Rattle.resolver.specs.ListsExactly.{MalformedAt}

@@ -4,8 +4,8 @@ use mathlib.Core.Path.{_≡_, refl, sym, ap, subst, _∙_}
 use mathlib.Core.Bool.{Bool, true, false}
 use Prim.Native.Nat.{ℕ, _-_, _≤_, min}
 use lib.ListN.{replicate}
-use Rattle.refusal.specs.Refusals.{numberOf, placeOf}
-use Rattle.refusal.specs.declared.Refusal.{Refusal}
+use Rattle.prelude.specs.Refusals.{numberOf, placeOf}
+use Rattle.prelude.specs.declared.Refusal.{Refusal}
 use Rattle.output.specs.Output as out
 use Rattle.output.specs.Output.{Input, roomOf, settledBuild, settledOf, passesOf, buildOf, visitsOf, leftBy, Builds}
 use Rattle.output.specs.declared.Build.{Build}

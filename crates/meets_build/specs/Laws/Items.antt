@@ -4,17 +4,17 @@ use mathlib.Core.Bool.{Bool, true, false}
 use mathlib.Core.List.{List, [], _∷_, List·Memᴰ, List·Memᴰ·head, List·Memᴰ·eq-of-singleton, List·Memᴰ·not-nil}
 use Prim.Native.Nat.{ℕ, _+_, _≤_, _<_}
 use native.Mathlib.Omega.{arith}
-use Rattle.refusal.specs.Pick.{pick}
-use Rattle.refusal.specs.declared.Opt.{Opt}
-use Rattle.refusal.specs.declared.Opt.the-variants.{None, Some}
+use Rattle.prelude.specs.Pick.{pick}
+use Rattle.prelude.specs.declared.Opt.{Opt}
+use Rattle.prelude.specs.declared.Opt.the-variants.{None, Some}
 use Rattle.bankdef.specs.declared.Bankdefs.{Bankdefs}
 use Rattle.iter.specs.Address.{outAt}
 use Rattle.build_plan.specs.Theorems.Kinds.{written-exactly}
 use Rattle.resolver.specs.Layout.{Checked}
-use Rattle.build_sights.specs.Items.{Item, isWritten, standing, itemOf, itemsOf}
-use Rattle.build_sights.specs.Laws.VisitLaws.{each-member, each-from, visit-member, member-visit}
-use Rattle.build_sights.specs.Visits.{positionOf, visitsTo}
-use Rattle.build_sights.specs.declared.Visit.{Visit}
+use Rattle.build_visits.specs.Items.{Item, isWritten, standing, itemOf, itemsOf}
+use Rattle.build_visits.specs.Laws.VisitLaws.{each-member, each-from, visit-member, member-visit}
+use Rattle.build_visits.specs.Visits.{positionOf, visitsTo}
+use Rattle.build_visits.specs.declared.Visit.{Visit}
 use Rattle.says.specs.Build as says
 use Rattle.says.specs.Build.{Given, nodes, kind, operand, Offset, IsWritten, Offer}
 use Rattle.meets_sentences.specs.Laws.One.{number-one, sees-one}

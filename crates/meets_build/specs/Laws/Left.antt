@@ -9,11 +9,11 @@ use lib.Dec.{eqb, ltb}
 use lib.IntN.{ℤ, pos, _+ℤ_}
 use lib.ListN.{length, getD, drop, length-append, length-drop, length-map}
 use lib.Seq.{getD-drop}
-use Rattle.refusal.specs.Laws.Bools.{either, unlike}
-use Rattle.refusal.specs.Pick.{pick}
-use Rattle.refusal.specs.Laws.Pick.{pick-true, pick-false}
-use Rattle.refusal.specs.declared.Opt.{Opt}
-use Rattle.refusal.specs.declared.Opt.the-variants.{None, Some}
+use Rattle.prelude.specs.Laws.Bools.{either, unlike}
+use Rattle.prelude.specs.Pick.{pick}
+use Rattle.prelude.specs.Laws.Pick.{pick-true, pick-false}
+use Rattle.prelude.specs.declared.Opt.{Opt}
+use Rattle.prelude.specs.declared.Opt.the-variants.{None, Some}
 use Rattle.bankdef.specs.Check.{noBank, banksOf}
 use Rattle.bankdef.specs.FillBits.{FillsBit}
 use Rattle.bankdef.specs.declared.Bankdef.{Bankdef}
@@ -37,11 +37,11 @@ use Rattle.output.specs.declared.Build.the-variants.{Done}
 use Rattle.output.specs.declared.Output.{Output}
 use Rattle.build_plan.specs.Theorems.Kinds.{span-exactly}
 use Rattle.resolver.specs.Layout.{Checked}
-use Rattle.build_sights.specs.Laws.ItemLaws.{image-length}
-use Rattle.build_sights.specs.Items.{Item, InItem, imageOf}
-use Rattle.build_sights.specs.Spans.{Span, isSpan, over, addresses, words, sizes}
-use Rattle.build_sights.specs.Visits.{positionOf}
-use Rattle.build_sights.specs.declared.Visit.{Visit}
+use Rattle.build_visits.specs.Laws.ItemLaws.{image-length}
+use Rattle.build_visits.specs.Items.{Item, InItem, imageOf}
+use Rattle.build_visits.specs.Spans.{Span, isSpan, over, addresses, words, sizes}
+use Rattle.build_visits.specs.Visits.{positionOf}
+use Rattle.build_visits.specs.declared.Visit.{Visit}
 use Rattle.build_write.specs.Laws.Blank.{blank-length, blank-bytes}
 use Rattle.says.specs.Build as says
 use Rattle.says.specs.Build.{Given, banks, nodes, kind, unit, start, flag, fillBit, Offset, IsWritten, Offer, Sees, Number, Spans}

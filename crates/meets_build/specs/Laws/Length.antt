@@ -9,10 +9,10 @@ use borrow.Author.Tests.{eq-eqb, ne-eqb, eqb-true, eqb-false}
 use lib.Dec.{eqb}
 use lib.ListN.{length, getD, take, length-take}
 use lib.Seq.{getD-take, take-suc, take-all}
-use Rattle.refusal.specs.Laws.Bools.{either}
-use Rattle.refusal.specs.Pick.{pick}
-use Rattle.refusal.specs.declared.Opt.{Opt}
-use Rattle.refusal.specs.declared.Opt.the-variants.{None, Some}
+use Rattle.prelude.specs.Laws.Bools.{either}
+use Rattle.prelude.specs.Pick.{pick}
+use Rattle.prelude.specs.declared.Opt.{Opt}
+use Rattle.prelude.specs.declared.Opt.the-variants.{None, Some}
 use Rattle.bankdef.specs.Check.{noBank, banksOf}
 use Rattle.bankdef.specs.Fill.{fillFrom, fillLength, fullLength, fillBy}
 use Rattle.bankdef.specs.FillFacts as facts
@@ -23,12 +23,12 @@ use Rattle.bankdef.specs.FullFill.{FullEnd}
 use Rattle.bankdef.specs.Numbers.{isZero, SoundBank}
 use Rattle.bankdef.specs.Theorems.Refused.{accepted}
 use Rattle.bankdef.specs.declared.Bankdef.{Bankdef}
-use Rattle.lists.specs.Theorems.Sound.{accepted-lists}
+use Rattle.nodes.specs.Theorems.Sound.{accepted-lists}
 use Rattle.resolver.specs.Layout.{Checked}
 use Rattle.resolver.specs.Once.{bankRecord}
-use Rattle.build_sights.specs.Laws.ItemLaws.{fill-within, end-within}
-use Rattle.build_sights.specs.Theorems.ItemLaws.{length-is-one}
-use Rattle.build_sights.specs.Items.{Item, endOf, lengthOf}
+use Rattle.build_visits.specs.Laws.ItemLaws.{fill-within, end-within}
+use Rattle.build_visits.specs.Theorems.ItemLaws.{length-is-one}
+use Rattle.build_visits.specs.Items.{Item, endOf, lengthOf}
 use Rattle.says.specs.Build as says
 use Rattle.says.specs.Build.{Given, banks, nodes, Filled, Size, Offset, FilledRange, Inherited, Reaches, Length, IsWritten, Offer}
 use Rattle.meets_sentences.specs.Laws.One.{inherited-one}

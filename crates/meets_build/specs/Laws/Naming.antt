@@ -7,13 +7,13 @@ use Prim.Native.Nat.{ℕ, _+_, _-_, _≤_, _<_, min, max}
 use native.Mathlib.Omega.{arith}
 use lib.Dec.{eqb, ltb}
 use borrow.Author.Tests.{eqb-true, eqb-false, eq-eqb, ne-eqb, ltb-true, lt-ltb}
-use Rattle.refusal.specs.Laws.Bools.{either, both, clash, unlike}
-use Rattle.refusal.specs.Pick.{pick}
-use Rattle.refusal.specs.declared.Place.{Place}
-use Rattle.refusal.specs.declared.Place.the-variants.{One, Two}
+use Rattle.prelude.specs.Laws.Bools.{either, both, clash, unlike}
+use Rattle.prelude.specs.Pick.{pick}
+use Rattle.prelude.specs.declared.Place.{Place}
+use Rattle.prelude.specs.declared.Place.the-variants.{One, Two}
 use Rattle.overlap_checker.specs.Interval.{interval, clashes, sharesBit, strictlyInside}
 use Rattle.overlap_checker.specs.declared.Entry.{Entry}
-use Rattle.refusal.specs.declared.Opt.the-variants.{None, Some}
+use Rattle.prelude.specs.declared.Opt.the-variants.{None, Some}
 use Rattle.bankdef.specs.declared.Bankdef.{Bankdef}
 use Rattle.overlap_checker.specs.Folds.{accepted, stateAfter}
 use Rattle.overlap_checker.specs.Naming.{LowestAbove, HighestBelow, Named}

@@ -8,11 +8,11 @@ use native.Mathlib.Omega.{arith}
 use lib.Dec.{ltb}
 use lib.ListN.{length, getD, length-append}
 use borrow.Author.Tests.{lt-ltb, le-ltb, ltb-true, ltb-false}
-use Rattle.refusal.specs.Laws.Bools.{either, unlike}
-use Rattle.refusal.specs.Pick.{pick}
+use Rattle.prelude.specs.Laws.Bools.{either, unlike}
+use Rattle.prelude.specs.Pick.{pick}
 use Rattle.bankdef.specs.declared.Bankdefs.{Bankdefs}
 use Rattle.iter.specs.Step.{noLost}
-use Rattle.lists.specs.Theorems.Sound.{accepted-lists}
+use Rattle.nodes.specs.Theorems.Sound.{accepted-lists}
 use Rattle.overlap_checker.specs.Folds.{nonzero, empties}
 use Rattle.overlap_checker.specs.Interval.{interval}
 use Rattle.overlap_checker.specs.declared.Entry.{Entry}
@@ -24,10 +24,10 @@ use Rattle.build_plan.specs.Laws.Plan.{length-of-banks, getD-of-banks}
 use Rattle.resolver.specs.Layout.{Checked}
 use Rattle.resolver.specs.Padding.{paddingTo}
 use Rattle.resolver.specs.Theorems.Padding.{walk-carries-padding}
-use Rattle.build_sights.specs.Spans.{Span, isSpan, spanAt, spanOf, spansOf}
-use Rattle.build_sights.specs.Laws.VisitLaws.{each-next, each-member, each-from, visits-none, visit-member, member-visit}
-use Rattle.build_sights.specs.Visits.{each, visitAt, visitsTo}
-use Rattle.build_sights.specs.declared.Visit.{Visit}
+use Rattle.build_visits.specs.Spans.{Span, isSpan, spanAt, spanOf, spansOf}
+use Rattle.build_visits.specs.Laws.VisitLaws.{each-next, each-member, each-from, visits-none, visit-member, member-visit}
+use Rattle.build_visits.specs.Visits.{each, visitAt, visitsTo}
+use Rattle.build_visits.specs.declared.Visit.{Visit}
 use Rattle.says.specs.Build as says
 use Rattle.says.specs.Build.{Given, nodes, Standing, BankAt, Offer, Interval, Mark, StoredCount, IsSpan, Spans, Padding}
 use Rattle.meets_build.specs.Laws.Shown.{Shown, listed, walked, rowNo, nodeNo}

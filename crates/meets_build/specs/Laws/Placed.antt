@@ -8,10 +8,10 @@ use native.Mathlib.Omega.{arith}
 use borrow.Author.Tests.{ltb-true, ltb-false}
 use lib.Dec.{ltb}
 use lib.ListN.{length}
-use Rattle.refusal.specs.Laws.Bools.{either}
-use Rattle.refusal.specs.Laws.Pick.{pick-true, pick-false}
-use Rattle.refusal.specs.declared.Refusal.{Refusal}
-use Rattle.refusal.specs.declared.Refusal.the-variants.{TooShort}
+use Rattle.prelude.specs.Laws.Bools.{either}
+use Rattle.prelude.specs.Laws.Pick.{pick-true, pick-false}
+use Rattle.prelude.specs.declared.Refusal.{Refusal}
+use Rattle.prelude.specs.declared.Refusal.the-variants.{TooShort}
 use Rattle.iter.specs.declared.Lost.{Lost}
 use Rattle.output.specs.Calls.{Call, closedIn, visitsIn, programIn, rowIn}
 use Rattle.output.specs.Laws.Calls.{padding-is}
@@ -29,7 +29,7 @@ use Rattle.resolver.specs.Layout.{Checked}
 use Rattle.resolver.specs.declared.Settled.the-variants.{At}
 use Rattle.c_answers.specs.Told.{layoutTold}
 use Rattle.c_answers.specs.declared.DkLayout.{DkLayout}
-use Rattle.build_sights.specs.Spans.{spansOf}
+use Rattle.build_visits.specs.Spans.{spansOf}
 use Rattle.says.specs.Words.{Tries, refused, passed}
 use Rattle.says.specs.Build as says
 use Rattle.says.specs.Build.{Given, nodes, Outcome, Reads, Offer, Why, Refuses, Spans, Accepts, Built, BuildSays}

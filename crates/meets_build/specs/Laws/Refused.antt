@@ -5,17 +5,17 @@ use mathlib.Core.List.{List, [], _∷_, List·Memᴰ, List·Memᴰ·head}
 use mathlib.Core.Logic.{_⊎_, inl, inr, ⊎-elim}
 use Prim.Native.Nat.{ℕ, suc, _-_, _≤_, _<_}
 use native.Mathlib.Omega.{arith}
-use Rattle.refusal.specs.Laws.Bools.{unlike}
-use Rattle.refusal.specs.declared.Place.{Place}
-use Rattle.refusal.specs.declared.Place.the-variants.{One, Two}
-use Rattle.refusal.specs.declared.Refusal.{Refusal}
+use Rattle.prelude.specs.Laws.Bools.{unlike}
+use Rattle.prelude.specs.declared.Place.{Place}
+use Rattle.prelude.specs.declared.Place.the-variants.{One, Two}
+use Rattle.prelude.specs.declared.Refusal.{Refusal}
 use Rattle.output.specs.Calls.{Call, visitIn, visitsBefore, closedIn, programIn, rowIn, nodesIn}
 use Rattle.output.specs.Output as out
 use Rattle.output.specs.Output.{Builds, settledOf}
 use Rattle.output.specs.OffersMade.{FirstRefused}
 use Rattle.output.specs.RefusedAtNode.{Reaches, RefusedThere, Cause}
 use Rattle.output.specs.Laws.RefusedAtNode.{cause-of, there}
-use Rattle.refusal.specs.Refusals.{numberOf, placeOf}
+use Rattle.prelude.specs.Refusals.{numberOf, placeOf}
 use Rattle.output.specs.declared.Output.{Output}
 use Rattle.overlap_checker.specs.Folds.{nonzero, empties}
 use Rattle.overlap_checker.specs.State.{State, emptyState}
@@ -23,11 +23,11 @@ use Rattle.build_plan.specs.Placing.{placedAll, placedFrom, holds, stops, verdi
 use Rattle.build_plan.specs.Laws.PlacingLaws.{placed-append, before-holds, stops-holds, offer-is}
 use Rattle.resolver.specs.Layout.{Checked}
 use Rattle.resolver.specs.declared.Settled.the-variants.{At}
-use Rattle.build_sights.specs.Laws.VisitLaws.{visits-split}
-use Rattle.refusal.specs.Told.{Told, gives, refuses, Nothing, toldVerdict}
-use Rattle.refusal.specs.Theorems.Told.{number-some}
-use Rattle.refusal.specs.declared.Refusal.the-variants.{DefaultBank, PastBank, NoOutput}
-use Rattle.refusal.specs.declared.Verdict.the-variants.{Accepted, Refused as TurnedAway}
+use Rattle.build_visits.specs.Laws.VisitLaws.{visits-split}
+use Rattle.prelude.specs.Told.{Told, gives, refuses, Nothing, toldVerdict}
+use Rattle.prelude.specs.Theorems.Told.{number-some}
+use Rattle.prelude.specs.declared.Refusal.the-variants.{DefaultBank, PastBank, NoOutput}
+use Rattle.prelude.specs.declared.Verdict.the-variants.{Accepted, Refused as TurnedAway}
 use Rattle.overlap_checker.specs.Theorems.Demand3.{only-two, full-place}
 use Rattle.overlap_checker.specs.State.{answer as answer-to}
 use Rattle.overlap_checker.specs.declared.Entry.{Entry}

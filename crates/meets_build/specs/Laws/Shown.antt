@@ -10,9 +10,9 @@ use lib.IntN.{ℤ, pos, _+ℤ_, _*ℤ_, +ℤ-assoc}
 use lib.ListN.{length, getD, take, drop}
 use lib.Seq.{getD-take, getD-drop}
 use borrow.Author.Tests.{eqb-true, eqb-false}
-use Rattle.refusal.specs.Laws.Bools.{either}
-use Rattle.refusal.specs.declared.Opt.the-variants.{None, Some}
-use Rattle.refusal.specs.declared.Refusal.the-variants.{Malformed}
+use Rattle.prelude.specs.Laws.Bools.{either}
+use Rattle.prelude.specs.declared.Opt.the-variants.{None, Some}
+use Rattle.prelude.specs.declared.Refusal.the-variants.{Malformed}
 use Rattle.bankdef.specs.Numbers.{fillBit as bitTold}
 use Rattle.bankdef.specs.declared.Bankdef.{Bankdef}
 use Rattle.bankdef.specs.declared.Bankdefs.{Bankdefs}
@@ -20,9 +20,9 @@ use Rattle.iter.specs.Laws.Aligned.{never, skips-same}
 use Rattle.iter.specs.Theorems.Aligned.{told-when, four-when, to-none, told-aligns}
 use Rattle.iter.specs.Distance.{tellable, addressInBits, noSkip, distanceOf}
 use Rattle.iter.specs.declared.Distance.the-variants.{Skips}
-use Rattle.lists.specs.declared.Node.{Node}
+use Rattle.nodes.specs.declared.Node.{Node}
 use Rattle.iter.specs.declared.Skipped.{Skipped}
-use Rattle.lists.specs.Lists.{Lists, Row, rowAt}
+use Rattle.nodes.specs.Lists.{Lists, Row, rowAt}
 use Rattle.resolver.specs.Once.{Program, node, bankRecord}
 use Rattle.resolver.specs.Passes.{program}
 use Rattle.says.specs.Build as says

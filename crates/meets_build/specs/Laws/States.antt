@@ -8,12 +8,12 @@ use lib.Dec.{eqb}
 use lib.IntN.{ℤ, pos, _+ℤ_}
 use lib.ListN.{getD}
 use borrow.Author.Tests.{eqb-true, eqb-false, lt-leb, ne-eqb, le-leb}
-use Rattle.refusal.specs.Laws.Bools.{either}
+use Rattle.prelude.specs.Laws.Bools.{either}
 use Rattle.bankdef.specs.declared.Bankdef.{Bankdef}
 use Rattle.bankdef.specs.declared.Bankdefs.{Bankdefs}
 use Rattle.iter.specs.Address.{unitsFrom}
 use Rattle.iter.specs.declared.Moved.the-variants.{To}
-use Rattle.lists.specs.declared.Node.{Node}
+use Rattle.nodes.specs.declared.Node.{Node}
 use Rattle.iter.specs.declared.Pos.{Pos}
 use Rattle.resolver.specs.LabelStates.{KnownOnBoundary, SameAddress}
 use Rattle.resolver.specs.Theorems.LabelStates.{label-resolved-exactly, label-stable-exactly}

@@ -6,10 +6,10 @@ use mathlib.Core.Logic.{_⊎_, inl, inr, ⊎-elim}
 use Prim.Native.Nat.{ℕ, zero, suc, _+_, _-_, _%_, _≤_, _<_, min}
 use native.Mathlib.Omega.{arith}
 use lib.ListN.{getD}
-use Rattle.refusal.specs.Refusals.{numberOf, placeOf}
-use Rattle.refusal.specs.declared.Place.the-variants.{One}
-use Rattle.refusal.specs.declared.Refusal.{Refusal}
-use Rattle.refusal.specs.declared.Refusal.the-variants.{PositionPast, LabelOffBoundary, Malformed}
+use Rattle.prelude.specs.Refusals.{numberOf, placeOf}
+use Rattle.prelude.specs.declared.Place.the-variants.{One}
+use Rattle.prelude.specs.declared.Refusal.{Refusal}
+use Rattle.prelude.specs.declared.Refusal.the-variants.{PositionPast, LabelOffBoundary, Malformed}
 use Rattle.bankdef.specs.declared.Bankdefs.{Bankdefs}
 use Rattle.iter.specs.AdvanceFacts as facts
 use Rattle.iter.specs.AdvanceFacts.{AddsBits, PassesLimit, SightPasses}
@@ -18,7 +18,7 @@ use Rattle.iter.specs.StepCases.{standing}
 use Rattle.iter.specs.declared.Lost.{Lost}
 use Rattle.iter.specs.declared.Moved.the-variants.{To, Refused as Halted}
 use Rattle.iter.specs.declared.Pos.{Pos}
-use Rattle.lists.specs.Theorems.Sound.{accepted-lists}
+use Rattle.nodes.specs.Theorems.Sound.{accepted-lists}
 use Rattle.resolver.specs.Laws.Least.{or-past}
 use Rattle.resolver.specs.Layout.{Checked}
 use Rattle.resolver.specs.Theorems.NeverFour.{never-four}

@@ -10,11 +10,11 @@ use lib.Dec.{eqb, leb}
 use lib.ListN.{length, getD, replicate, length-append, length-take, List·getD-append}
 use lib.Seq.{getD-take}
 use borrow.Author.Tests.{eqb-true, eqb-false, eq-eqb, ne-eqb, leb-true, leb-false, le-leb, lt-leb, not-true}
-use Rattle.refusal.specs.Laws.Bools.{either, clash, both, unlike}
-use Rattle.refusal.specs.Limits.{maxBanks, maxStart}
-use Rattle.refusal.specs.Pick.{pick}
-use Rattle.refusal.specs.declared.Opt.the-variants.{None, Some}
-use Rattle.refusal.specs.declared.Verdict.the-variants.{Accepted}
+use Rattle.prelude.specs.Laws.Bools.{either, clash, both, unlike}
+use Rattle.prelude.specs.Limits.{maxBanks, maxStart}
+use Rattle.prelude.specs.Pick.{pick}
+use Rattle.prelude.specs.declared.Opt.the-variants.{None, Some}
+use Rattle.prelude.specs.declared.Verdict.the-variants.{Accepted}
 use Rattle.bankdef.specs.Check.{banksOf, countSound, checkOf, noBank}
 use Rattle.bankdef.specs.Numbers as numbers
 use Rattle.bankdef.specs.Numbers.{Faulty, SoundBank}

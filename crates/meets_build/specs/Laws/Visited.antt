@@ -6,18 +6,18 @@ use mathlib.Core.Logic.{_⊎_, inl, inr, _↔_}
 use Prim.Native.Nat.{ℕ, _+_, _≤_, _<_}
 use native.Mathlib.Omega.{arith}
 use borrow.Author.Tests.{leb-true, le-leb}
-use Rattle.refusal.specs.Laws.Bools.{unlike}
-use Rattle.refusal.specs.Laws.Pick.{pick-true, pick-false}
-use Rattle.refusal.specs.Pick.{pick}
-use Rattle.refusal.specs.declared.Opt.{Opt}
-use Rattle.refusal.specs.declared.Opt.the-variants.{None, Some}
+use Rattle.prelude.specs.Laws.Bools.{unlike}
+use Rattle.prelude.specs.Laws.Pick.{pick-true, pick-false}
+use Rattle.prelude.specs.Pick.{pick}
+use Rattle.prelude.specs.declared.Opt.{Opt}
+use Rattle.prelude.specs.declared.Opt.the-variants.{None, Some}
 use Rattle.bankdef.specs.declared.Bankdef.{Bankdef}
 use Rattle.bankdef.specs.declared.Bankdefs.{Bankdefs}
 use Rattle.iter.specs.Address.{outAt}
 use Rattle.iter.specs.declared.Moved.the-variants.{To}
-use Rattle.lists.specs.Kinds.{sizeOf}
-use Rattle.lists.specs.Laws.Kinds.{adds-so, label-adds-none}
-use Rattle.lists.specs.declared.Node.{Node}
+use Rattle.nodes.specs.Kinds.{sizeOf}
+use Rattle.nodes.specs.Laws.Kinds.{adds-so, label-adds-none}
+use Rattle.nodes.specs.declared.Node.{Node}
 use Rattle.iter.specs.declared.Pos.{Pos}
 use Rattle.overlap_checker.specs.Interval.{interval}
 use Rattle.overlap_checker.specs.declared.Entry.{Entry}
@@ -28,8 +28,8 @@ use Rattle.build_plan.specs.Theorems.Kinds.{offered-exactly}
 use Rattle.build_plan.specs.Placing.{isOffered, bitsAt, offerOf}
 use Rattle.resolver.specs.Layout.{Checked}
 use Rattle.resolver.specs.NodeOrder.{defAt}
-use Rattle.build_sights.specs.Visits.{seenPos, positionOf, visitAt}
-use Rattle.build_sights.specs.declared.Visit.{Visit}
+use Rattle.build_visits.specs.Visits.{seenPos, positionOf, visitAt}
+use Rattle.build_visits.specs.declared.Visit.{Visit}
 use Rattle.says.specs.Build as says
 use Rattle.says.specs.Build.{Given, nodes, kind, banks, In, Size, Offset, Number, Sees, Offer, Extent, Placed, IsWritten}
 use Rattle.meets_sentences.specs.Grounds.{Nine, Ten, Eleven}

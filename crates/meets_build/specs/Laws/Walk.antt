@@ -9,12 +9,12 @@ use lib.Dec.{eqb}
 use lib.ListN.{length, getD, set, length-set, getD-replicate, replicate}
 use lib.Seq.{getD-set-same, getD-set-other}
 use borrow.Author.Tests.{eqb-true, eqb-false, le-leb}
-use Rattle.refusal.specs.Laws.Bools.{either, unlike}
-use Rattle.refusal.specs.Limits.{maxBanks, maxNodes, maxPosition}
-use Rattle.refusal.specs.Pick.{pick}
-use Rattle.refusal.specs.Told.{Told, gives, refuses, toldNumber}
-use Rattle.refusal.specs.Theorems.Told.{number-some}
-use Rattle.refusal.specs.declared.Place.{Place}
+use Rattle.prelude.specs.Laws.Bools.{either, unlike}
+use Rattle.prelude.specs.Limits.{maxBanks, maxNodes, maxPosition}
+use Rattle.prelude.specs.Pick.{pick}
+use Rattle.prelude.specs.Told.{Told, gives, refuses, toldNumber}
+use Rattle.prelude.specs.Theorems.Told.{number-some}
+use Rattle.prelude.specs.declared.Place.{Place}
 use Rattle.bankdef.specs.declared.Bankdef.{Bankdef}
 use Rattle.bankdef.specs.declared.Bankdefs.{Bankdefs}
 use Rattle.bankdef.specs.Theorems.Refused.{accepted}
@@ -31,12 +31,12 @@ use Rattle.iter.specs.StepFigures.{Steps, Counts}
 use Rattle.iter.specs.Theorems.StepFigures.{step-told}
 use Rattle.iter.specs.declared.Lost.{Lost}
 use Rattle.iter.specs.declared.Moved.the-variants.{To, Refused as Stopped}
-use Rattle.lists.specs.declared.Node.{Node}
+use Rattle.nodes.specs.declared.Node.{Node}
 use Rattle.iter.specs.declared.Pos.{Pos}
 use Rattle.iter.specs.declared.Skipped.{Skipped}
 use Rattle.iter.specs.declared.Stepped.{Stepped}
 use Rattle.iter.specs.declared.Walk.{Walk}
-use Rattle.lists.specs.Theorems.Sound.{accepted-lists}
+use Rattle.nodes.specs.Theorems.Sound.{accepted-lists}
 use Rattle.resolver.specs.Theorems.LabelStates.{switchedTo, bank-by-switches}
 use Rattle.resolver.specs.Layout.{Checked}
 use Rattle.resolver.specs.NodeOrder.{seenAt, defAt, GoesPast}

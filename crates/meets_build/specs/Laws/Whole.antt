@@ -1,12 +1,12 @@
 -- `dk_build` by its contract, where it is refused at a node of the build: the outcome is one that the sentences say, whole.
 use mathlib.Core.Path.{_≡_, refl, sym, ap, subst, _∙_}
 use Prim.Native.Nat.{ℕ, _-_, _≤_, min}
-use Rattle.refusal.specs.Laws.Bools.{unlike}
-use Rattle.refusal.specs.declared.Refusal.{Refusal}
-use Rattle.refusal.specs.declared.Verdict.{Verdict}
-use Rattle.refusal.specs.declared.Verdict.the-variants.{Accepted, Refused as TurnedAway}
+use Rattle.prelude.specs.Laws.Bools.{unlike}
+use Rattle.prelude.specs.declared.Refusal.{Refusal}
+use Rattle.prelude.specs.declared.Verdict.{Verdict}
+use Rattle.prelude.specs.declared.Verdict.the-variants.{Accepted, Refused as TurnedAway}
 use Rattle.bankdef.specs.Check.{checkOf}
-use Rattle.lists.specs.Lists.{listsOf}
+use Rattle.nodes.specs.Lists.{listsOf}
 use Rattle.output.specs.OffersMade.{FirstRefused}
 use Rattle.output.specs.Output as out
 use Rattle.output.specs.Output.{roomOf, settledOf, passesOf, buildOf, Builds}

@@ -5,7 +5,7 @@ use Rattle.output.specs.Output.{Builds, buildOf, roomOf, settledOf}
 use Rattle.resolver.specs.declared.Settled.{Settled}
 use Rattle.resolver.specs.declared.Settled.the-variants.{At, Refused as Unsettled}
 use Rattle.c_model.specs.Tables.{TablesTold}
-use Rattle.lists.specs.Lists.{lists}
+use Rattle.nodes.specs.Lists.{lists}
 use Rattle.output.specs.Output.{input, lent}
 use Rattle.c_tables.specs.Tables.{given, tableOf, choicesBy}
 use Rattle.c_answers.specs.declared.DkLayout.{DkLayout}

@@ -4,10 +4,10 @@ use mathlib.Core.Bool.{Bool, true, false}
 use mathlib.Core.Logic.{_↔_}
 use Prim.Native.Nat.{ℕ, _*_}
 use lib.Dec.{ltb}
-use Rattle.refusal.specs.Pick.{pick}
-use Rattle.refusal.specs.Told.{refuses, gives}
-use Rattle.refusal.specs.declared.Place.the-variants.{One}
-use Rattle.refusal.specs.declared.Refusal.the-variants.{TooShort}
+use Rattle.prelude.specs.Pick.{pick}
+use Rattle.prelude.specs.Told.{refuses, gives}
+use Rattle.prelude.specs.declared.Place.the-variants.{One}
+use Rattle.prelude.specs.declared.Refusal.the-variants.{TooShort}
 use Rattle.output.specs.Output as out
 use Rattle.output.specs.Output.{Input, Room, roomOf, roomFor, placedBuild, settledBuild, settledOf, passesOf, closedOf, visitsOf, buildOf, leftBy, Builds}
 use Rattle.output.specs.Output.{toldBuild, roomTold, placedTold, settledTold}

@@ -6,8 +6,8 @@ use mathlib.Core.List.{List}
 use Prim.Native.Nat.{ℕ, _≤_, _<_}
 use native.Mathlib.Omega.{arith}
 use lib.ListN.{take}
-use Rattle.refusal.specs.Refusals.{numberOf}
-use Rattle.refusal.specs.Theorems.Told.{number-some}
+use Rattle.prelude.specs.Refusals.{numberOf}
+use Rattle.prelude.specs.Theorems.Told.{number-some}
 use Rattle.output.specs.Calls.{Accepted}
 use Rattle.output.specs.Laws.Calls.{settled-is}
 use Rattle.output.specs.Output as out

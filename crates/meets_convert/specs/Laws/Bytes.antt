@@ -6,7 +6,7 @@ use Prim.Native.Nat.{ℕ, zero, suc, _+_, _/_, _%_, _≤_, _<_}
 use native.Mathlib.Omega.{arith}
 use lib.ListN.{length, getD, take, drop, replicate, length-append}
 use lib.Seq.{getD-append-add}
-use Rattle.refusal.specs.Pick.{pick}
+use Rattle.prelude.specs.Pick.{pick}
 use Rattle.form_fields.specs.Contents.{Contents, Each, bytes16, field, flat, headBytes, written}
 use Rattle.form_fields.specs.Kind.{Known, is1, is2}
 use Rattle.form_fields.specs.declared.Kind.{Kind}

@@ -4,7 +4,7 @@ use mathlib.Core.Bool.{Bool}
 use mathlib.Core.List.{List}
 use Prim.Native.Nat.{ℕ, _≤_}
 use native.Mathlib.Omega.{arith}
-use Rattle.refusal.specs.Theorems.Told.{number-some}
+use Rattle.prelude.specs.Theorems.Told.{number-some}
 use Rattle.form_fields.specs.declared.Kind.{Kind}
 use Rattle.form_fields.specs.Contents.{Contents}
 use Rattle.form_fields.specs.Whole.{Bytes}

@@ -9,8 +9,8 @@ use lib.Dec.{eqb}
 use lib.ListN.{length, getD, take, drop, replicate, length-map}
 use lib.Seq.{ext-getD}
 use borrow.Author.Tests.{eqb-true, eqb-false, eq-eqb, ne-eqb, not-true, not-false}
-use Rattle.refusal.specs.Laws.Bools.{either, both, clash}
-use Rattle.refusal.specs.Pick.{pick}
+use Rattle.prelude.specs.Laws.Bools.{either, both, clash}
+use Rattle.prelude.specs.Pick.{pick}
 use Rattle.bankdef.specs.Search.{firstWhere}
 use Rattle.bankdef.specs.Laws.Search.{not-before, first-passes}
 use Rattle.form_fields.specs.Contents as made

@@ -7,8 +7,8 @@ use Prim.Native.Nat.{ℕ}
 use lib.Dec.{ltb}
 use lib.ListN.{replicate}
 use borrow.Author.Tests.{ltb-true}
-use Rattle.refusal.specs.Laws.Bools.{both}
-use Rattle.refusal.specs.declared.Opt.the-variants.{None}
+use Rattle.prelude.specs.Laws.Bools.{both}
+use Rattle.prelude.specs.declared.Opt.the-variants.{None}
 use Rattle.form_fields.specs.Contents.{bytes16, field, flat, written}
 use Rattle.form_fields.specs.Kind.{form1, form2}
 use Rattle.form_fields.specs.Whole.{Bytes}

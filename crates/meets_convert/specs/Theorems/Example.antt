@@ -6,7 +6,7 @@ use mathlib.Core.Logic.{⊎-elim}
 use Prim.Native.Nat.{ℕ, zero, suc, _≤_, _<_}
 use native.Mathlib.Omega.{arith}
 use lib.ListN.{length, getD, take, drop}
-use Rattle.refusal.specs.Laws.Bools.{unlike}
+use Rattle.prelude.specs.Laws.Bools.{unlike}
 use Rattle.says.specs.Words as words
 use Rattle.says.specs.Words.{First}
 use Rattle.says.specs.Files as files

@@ -9,9 +9,9 @@ use native.Mathlib.Omega.{arith}
 use lib.Dec.{eqb}
 use lib.ListN.{length, getD}
 use borrow.Author.Tests.{eqb-true, eqb-false}
-use Rattle.refusal.specs.Laws.Bools.{either}
-use Rattle.refusal.specs.Pick.{pick}
-use Rattle.refusal.specs.declared.Refusal.the-variants.{Malformed}
+use Rattle.prelude.specs.Laws.Bools.{either}
+use Rattle.prelude.specs.Pick.{pick}
+use Rattle.prelude.specs.declared.Refusal.the-variants.{Malformed}
 use Rattle.form_fields.specs.declared.Form as declared
 use Rattle.form_fields.specs.declared.Form.the-variants.{Sound as SoundForm, Broken as BrokenForm}
 use Rattle.form_fields.specs.declared.Kind.{Kind}
@@ -26,7 +26,7 @@ use Rattle.form_fields.specs.Lists.{kindsOf, operandsOf, numbersOf, statesOf, v
 use Rattle.form_fields.specs.Shape.{shapeIn, formIn, formOf, rowCount}
 use Rattle.form_fields.specs.Whole.{Bytes, contentsIn}
 use Rattle.form_build.specs.Filed.{listsIn, choicesOf}
-use Rattle.lists.specs.Lists.{lists}
+use Rattle.nodes.specs.Lists.{lists}
 use Rattle.output.specs.Output.{Input, input}
 use Rattle.says.specs.Files.{Form, form-1, form-2, Sound, Broken}
 use Rattle.says.specs.Form as says

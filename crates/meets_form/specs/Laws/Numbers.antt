@@ -11,7 +11,7 @@ use lib.Seq.{getD-append-add}
 use mir.Syntax.{w64}
 use mir.Val.{toZ}
 use borrow.Author.Tests.{lt-ltb, ltb-true, ltb-false}
-use Rattle.refusal.specs.Laws.Bools.{either}
+use Rattle.prelude.specs.Laws.Bools.{either}
 use Rattle.form_fields.specs.Columns.{column}
 use Rattle.form_fields.specs.Laws.Columns.{column-length, column-at}
 use Rattle.form_fields.specs.Lists.{cells}

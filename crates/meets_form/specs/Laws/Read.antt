@@ -12,8 +12,8 @@ use lib.Seq.{getD-take, getD-drop}
 use mir.Syntax.{w64}
 use mir.Val.{toZ}
 use borrow.Author.Tests.{eq-eqb, le-leb}
-use Rattle.refusal.specs.Limits.{maxBanks}
-use Rattle.refusal.specs.Pick.{pick}
+use Rattle.prelude.specs.Limits.{maxBanks}
+use Rattle.prelude.specs.Pick.{pick}
 use Rattle.bankdef.specs.Check.{noBank}
 use Rattle.bankdef.specs.declared.Bankdef.{Bankdef}
 use Rattle.bankdef.specs.declared.Bankdefs.{Bankdefs}
@@ -30,7 +30,7 @@ use Rattle.form_fields.specs.Shape.{bankCountIn, nodesStartIn, nodeCountIn, row
 use Rattle.form_fields.specs.Whole.{Bytes, part, contentsIn}
 use Rattle.form_fields.specs.Words.{byte, word16, word32, word64}
 use Rattle.form_build.specs.Filed.{choicesOf}
-use Rattle.lists.specs.Lists.{lists}
+use Rattle.nodes.specs.Lists.{lists}
 use Rattle.output.specs.Output.{Input, input}
 use Rattle.c_tables.specs.Tables.{given, bankIn, agree, countOf, tableOf, choicesBy}
 use Rattle.c_tables.specs.Tables as tables

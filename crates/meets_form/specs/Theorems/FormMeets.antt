@@ -3,7 +3,7 @@
 use mathlib.Core.Path.{_≡_, refl, ap, _∙_}
 use mathlib.Core.List.{List}
 use Prim.Native.Nat.{ℕ}
-use Rattle.refusal.specs.declared.Opt.the-variants.{None}
+use Rattle.prelude.specs.declared.Opt.the-variants.{None}
 use Rattle.form_fields.specs.declared.Form.the-variants.{Sound as SoundForm}
 use Rattle.form_fields.specs.declared.Shape.{Shape}
 use Rattle.form_fields.specs.Shape.{formOf}

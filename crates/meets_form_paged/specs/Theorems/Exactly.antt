@@ -4,7 +4,7 @@ use mathlib.Core.Path.{_≡_, refl, sym, subst}
 use mathlib.Core.List.{List}
 use mathlib.Core.Logic.{_↔_}
 use Prim.Native.Nat.{ℕ}
-use Rattle.refusal.specs.declared.Opt.the-variants.{Some}
+use Rattle.prelude.specs.declared.Opt.the-variants.{Some}
 use Rattle.form_fields.specs.Banks.{tableOf}
 use Rattle.form_fields.specs.Whole.{Bytes}
 use Rattle.form_build.specs.Filed.{listsIn, fileOutput, fileVisits}

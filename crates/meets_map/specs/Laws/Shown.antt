@@ -8,15 +8,15 @@ use native.Mathlib.Omega.{arith}
 use borrow.Author.Tests.{leb-true, le-leb}
 use lib.Dec.{leb}
 use lib.ListN.{length, getD, drop, length-append, length-drop}
-use Rattle.refusal.specs.Laws.Bools.{either, both, clash}
+use Rattle.prelude.specs.Laws.Bools.{either, both, clash}
 use Rattle.bitvec.specs.Lists.{listOf}
 use Rattle.bitvec.specs.Laws.Lists.{length-listOf}
 use Rattle.iter.specs.declared.Lost.{Lost}
-use Rattle.lists.specs.Kinds.{sizeOf}
-use Rattle.lists.specs.Theorems.Sound.{accepted-lists}
+use Rattle.nodes.specs.Kinds.{sizeOf}
+use Rattle.nodes.specs.Theorems.Sound.{accepted-lists}
 use Rattle.resolver.specs.Layout.{Checked}
 use Rattle.output.specs.Output.{Input, passesOf}
-use Rattle.build_sights.specs.Visits.{seenPos}
+use Rattle.build_visits.specs.Visits.{seenPos}
 use Rattle.build_map.specs.Map as map
 use Rattle.build_map.specs.Map.{reachOf, mapOf, paddingsTo, shown, leftBy, bankShown, positionShown, outputShown, sizeShown}
 use Rattle.build_map.specs.Laws.Entries.{shown-at, shown-past}

@@ -5,16 +5,16 @@ use Prim.Native.Nat.{ℕ, _-_, _≤_}
 use native.Mathlib.Omega.{arith}
 use borrow.Author.Tests.{lt-ltb}
 use lib.ListN.{replicate}
-use Rattle.refusal.specs.Refusals.{numberOf, placeOf}
-use Rattle.refusal.specs.declared.Refusal.{Refusal}
-use Rattle.refusal.specs.declared.Verdict.{Verdict}
-use Rattle.refusal.specs.declared.Verdict.the-variants.{Accepted, Refused}
+use Rattle.prelude.specs.Refusals.{numberOf, placeOf}
+use Rattle.prelude.specs.declared.Refusal.{Refusal}
+use Rattle.prelude.specs.declared.Verdict.{Verdict}
+use Rattle.prelude.specs.declared.Verdict.the-variants.{Accepted, Refused}
 use Rattle.bankdef.specs.Check.{checkOf}
 use Rattle.bankdef.specs.Theorems.Refused.{decided}
 use Rattle.bitvec.specs.Lists.{listOf}
 use Rattle.iter.specs.Step.{noLost}
 use Rattle.iter.specs.declared.Lost.{Lost}
-use Rattle.lists.specs.Lists.{lists, listsOf, Row}
+use Rattle.nodes.specs.Lists.{lists, listsOf, Row}
 use Rattle.resolver.specs.Laws.RefusedExactly.{table-number, lists-four}
 use Rattle.resolver.specs.Layout.{Checked, layoutOf}
 use Rattle.resolver.specs.Once.{Program}

@@ -8,8 +8,8 @@ use lib.Dec.{eqb}
 use lib.ListN.{getD, replicate, List·getD-append}
 use lib.Seq.{getD-take}
 use borrow.Author.Tests.{eqb-true, eqb-false, le-leb}
-use Rattle.refusal.specs.Laws.Bools.{either}
-use Rattle.refusal.specs.Limits.{maxBanks}
+use Rattle.prelude.specs.Laws.Bools.{either}
+use Rattle.prelude.specs.Limits.{maxBanks}
 use Rattle.bankdef.specs.Check.{noBank}
 use Rattle.bankdef.specs.declared.Bankdef.{Bankdef}
 use Rattle.iter.specs.Step.{noLost}

@@ -9,21 +9,21 @@ use lib.Dec.{eqb, ltb}
 use lib.IntN.{ℤ, pos, _+ℤ_}
 use lib.ListN.{length}
 use borrow.Author.Tests.{eqb-true, eqb-false}
-use Rattle.refusal.specs.Laws.Bools.{either, unlike}
-use Rattle.refusal.specs.Refusals.{numberOf, placeOf}
-use Rattle.refusal.specs.Theorems.Told.{number-some}
-use Rattle.refusal.specs.declared.Place.{Place}
-use Rattle.refusal.specs.declared.Place.the-variants.{One, Two}
-use Rattle.refusal.specs.declared.Refusal.{Refusal}
-use Rattle.refusal.specs.declared.Verdict.{Verdict}
-use Rattle.refusal.specs.declared.Verdict.the-variants.{Accepted, Refused}
+use Rattle.prelude.specs.Laws.Bools.{either, unlike}
+use Rattle.prelude.specs.Refusals.{numberOf, placeOf}
+use Rattle.prelude.specs.Theorems.Told.{number-some}
+use Rattle.prelude.specs.declared.Place.{Place}
+use Rattle.prelude.specs.declared.Place.the-variants.{One, Two}
+use Rattle.prelude.specs.declared.Refusal.{Refusal}
+use Rattle.prelude.specs.declared.Verdict.{Verdict}
+use Rattle.prelude.specs.declared.Verdict.the-variants.{Accepted, Refused}
 use Rattle.bankdef.specs.declared.Bankdef.{Bankdef}
 use Rattle.blocks.specs.Offsets.{noOffset}
 use Rattle.iter.specs.Address.{addressOf, unitsFrom}
 use Rattle.iter.specs.Theorems.ToldFacts.{address-when}
 use Rattle.iter.specs.declared.Lost.{Lost}
-use Rattle.lists.specs.Lists.{Row}
-use Rattle.lists.specs.Theorems.Sound.{accepted-lists}
+use Rattle.nodes.specs.Lists.{Row}
+use Rattle.nodes.specs.Theorems.Sound.{accepted-lists}
 use Rattle.resolver.specs.Layout.{Checked}
 use Rattle.resolver.specs.Once.{Program, bankRecord}
 use Rattle.resolver.specs.Passes.{rowOfPass}

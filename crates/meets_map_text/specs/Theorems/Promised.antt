@@ -7,8 +7,8 @@ use Prim.Native.Nat.{ℕ, _≤_, _<_}
 use native.Mathlib.Omega.{arith}
 use lib.ListN.{length, take, length-take}
 use lib.Seq.{take-all}
-use Rattle.refusal.specs.declared.Opt.{Opt}
-use Rattle.refusal.specs.declared.Refusal.the-variants.{Malformed}
+use Rattle.prelude.specs.declared.Opt.{Opt}
+use Rattle.prelude.specs.declared.Refusal.the-variants.{Malformed}
 use Rattle.sort.specs.Laws.Sorted.{le-or-lt}
 use Rattle.form_fields.specs.Kind.{kindOf}
 use Rattle.form_fields.specs.Laws.Kind.{known-longest}

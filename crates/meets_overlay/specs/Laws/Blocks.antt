@@ -8,7 +8,7 @@ use native.Mathlib.Omega.{arith}
 use borrow.Author.Tests.{ltb-false, leb-false, leb-true, ltb-true, eqb-true, eqb-false}
 use lib.Dec.{ltb, leb, eqb}
 use lib.ListN.{length, getD}
-use Rattle.refusal.specs.Laws.Bools.{either, clash, both}
+use Rattle.prelude.specs.Laws.Bools.{either, clash, both}
 use Rattle.bitvec.specs.Within.{covers}
 use Rattle.overlay.specs.Cover.{coveredBit, every}
 use Rattle.overlay.specs.Laws.CoverFacts.{covered-by}

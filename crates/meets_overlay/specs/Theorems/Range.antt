@@ -10,9 +10,9 @@ use borrow.Author.Tests.{ltb-true, ltb-false, leb-false}
 use lib.Dec.{ltb, leb}
 use lib.ListN.{length, take, drop, length-take, length-drop}
 use lib.Seq.{ext-getD, getD-take, getD-drop}
-use Rattle.refusal.specs.Laws.Bools.{either, clash}
-use Rattle.refusal.specs.Pick.{pick}
-use Rattle.refusal.specs.declared.Refusal.the-variants.{Malformed, BadPart, PartlyCovered}
+use Rattle.prelude.specs.Laws.Bools.{either, clash}
+use Rattle.prelude.specs.Pick.{pick}
+use Rattle.prelude.specs.declared.Refusal.the-variants.{Malformed, BadPart, PartlyCovered}
 use Rattle.overlay.specs.Cover.{coveredBit, coveredByte, allCovered, noneCovered}
 use Rattle.overlay.specs.Theorems.CoverFacts.{byte-holds, all-holds, none-holds}
 use Rattle.overlay.specs.Order.{inOrder}

@@ -5,9 +5,9 @@ use mathlib.Core.Logic.{⊎-elim}
 use Prim.Native.Nat.{ℕ, _-_, _≤_, _<_}
 use native.Mathlib.Omega.{arith}
 use lib.ListN.{length, getD, replicate, length-append, length-map, length-replicate, length-take}
-use Rattle.refusal.specs.Limits.{maxBanks}
-use Rattle.refusal.specs.declared.Opt.{Opt}
-use Rattle.refusal.specs.declared.Opt.the-variants.{None, Some}
+use Rattle.prelude.specs.Limits.{maxBanks}
+use Rattle.prelude.specs.declared.Opt.{Opt}
+use Rattle.prelude.specs.declared.Opt.the-variants.{None, Some}
 use Rattle.bankdef.specs.Check.{banksOf}
 use Rattle.bankdef.specs.Theorems.Refused.{accepted}
 use Rattle.bankdef.specs.declared.Bankdef.{Bankdef}

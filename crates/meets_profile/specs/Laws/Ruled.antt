@@ -8,15 +8,15 @@ use native.Mathlib.Nat.{div-add-mod', mul-mod-left}
 use native.Mathlib.Omega.{arith}
 use lib.Dec.{eqb, leb}
 use borrow.Author.Tests.{eqb-true, eqb-false, eq-eqb, ne-eqb, leb-true, leb-false, not-false}
-use Rattle.refusal.specs.Laws.Bools.{either, clash, unlike, neither}
-use Rattle.refusal.specs.declared.Opt.{Opt}
-use Rattle.refusal.specs.declared.Opt.the-variants.{None, Some}
-use Rattle.refusal.specs.declared.Refusal.the-variants.{OffProfile}
-use Rattle.refusal.specs.declared.Verdict.{Verdict}
-use Rattle.refusal.specs.declared.Verdict.the-variants.{Accepted, Refused}
+use Rattle.prelude.specs.Laws.Bools.{either, clash, unlike, neither}
+use Rattle.prelude.specs.declared.Opt.{Opt}
+use Rattle.prelude.specs.declared.Opt.the-variants.{None, Some}
+use Rattle.prelude.specs.declared.Refusal.the-variants.{OffProfile}
+use Rattle.prelude.specs.declared.Verdict.{Verdict}
+use Rattle.prelude.specs.declared.Verdict.the-variants.{Accepted, Refused}
 use Rattle.bankdef.specs.Theorems.Refused.{accepted}
 use Rattle.bankdef.specs.declared.Bankdef.{Bankdef}
-use Rattle.lists.specs.Lists.{firstOf}
+use Rattle.nodes.specs.Lists.{firstOf}
 use Rattle.resolver.specs.Layout.{Checked}
 use Rattle.resolver.specs.Once.{bankRecord}
 use Rattle.sort.specs.Laws.Sorted.{le-or-lt}

@@ -4,10 +4,10 @@ use mathlib.Core.Path.{_≡_, refl, _∙_}
 use mathlib.Core.List.{List, []}
 use Prim.Native.Nat.{ℕ, _≤_, _<_}
 use native.Mathlib.Omega.{arith}
-use Rattle.refusal.specs.declared.Verdict.the-variants.{Accepted}
+use Rattle.prelude.specs.declared.Verdict.the-variants.{Accepted}
 use Rattle.bankdef.specs.Check.{checkOf}
 use Rattle.bankdef.specs.declared.Bankdefs.{Bankdefs}
-use Rattle.lists.specs.Lists.{Lists, listsOf}
+use Rattle.nodes.specs.Lists.{Lists, listsOf}
 use Rattle.iter.specs.declared.Lost.{Lost}
 use Rattle.output.specs.Output as out
 use Rattle.output.specs.Output.{Input, roomOf, buildOf, passesOf}

@@ -2,12 +2,12 @@
 use mathlib.Core.Path.{_≡_, refl, ap, subst}
 use Prim.Native.Nat.{ℕ, _≤_}
 use native.Mathlib.Omega.{arith}
-use Rattle.refusal.specs.Refusals.{numberOf, placeOf}
-use Rattle.refusal.specs.declared.Refusal.{Refusal}
-use Rattle.refusal.specs.declared.Verdict.{Verdict}
-use Rattle.refusal.specs.declared.Verdict.the-variants.{Accepted, Refused}
+use Rattle.prelude.specs.Refusals.{numberOf, placeOf}
+use Rattle.prelude.specs.declared.Refusal.{Refusal}
+use Rattle.prelude.specs.declared.Verdict.{Verdict}
+use Rattle.prelude.specs.declared.Verdict.the-variants.{Accepted, Refused}
 use Rattle.bankdef.specs.Check.{checkOf}
-use Rattle.lists.specs.Lists.{listsOf, firstOf}
+use Rattle.nodes.specs.Lists.{listsOf, firstOf}
 use Rattle.resolver.specs.Layout.{Checked, layoutOf}
 use Rattle.resolver.specs.Theorems.RefusedExactly.{table-first, lists-next}
 use Rattle.resolver.specs.declared.Resolution.{Resolution}

@@ -7,7 +7,7 @@ use native.Mathlib.Omega.{arith}
 use lib.Dec.{eqb}
 use lib.ListN.{getD}
 use borrow.Author.Tests.{eqb-true, eqb-false}
-use Rattle.refusal.specs.Laws.Bools.{either}
+use Rattle.prelude.specs.Laws.Bools.{either}
 use Rattle.build_profile.specs.OneBit.{oneBit}
 use Rattle.build_profile.specs.Theorems.OneBit.{one-bit-power}
 use Rattle.build_profile.specs.Rules.{multiple}

@@ -9,11 +9,11 @@ use lib.Dec.{leb}
 use lib.IntN.{pos}
 use lib.ListN.{getD, replicate}
 use borrow.Author.Tests.{leb-true}
-use Rattle.refusal.specs.Laws.Bools.{both}
+use Rattle.prelude.specs.Laws.Bools.{both}
 use Rattle.bankdef.specs.Check.{firstPair}
 use Rattle.bankdef.specs.Search.{firstWhere}
 use Rattle.form_fields.specs.Columns.{column}
-use Rattle.lists.specs.Lists.{anyRowFault, nodesTo, listsOf}
+use Rattle.nodes.specs.Lists.{anyRowFault, nodesTo, listsOf}
 use Rattle.resolver.specs.Passes.{first}
 use Rattle.build_profile.specs.Pages.{pagesOf}
 use Rattle.build_profile.specs.Profile.{verdictOf, profileOf}

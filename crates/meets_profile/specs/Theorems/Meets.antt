@@ -3,10 +3,10 @@
 use mathlib.Core.Path.{_≡_, refl, sym, ap, subst, _∙_}
 use Prim.Native.Nat.{ℕ}
 use lib.ListN.{replicate}
-use Rattle.refusal.specs.declared.Verdict.{Verdict}
-use Rattle.refusal.specs.declared.Verdict.the-variants.{Accepted, Refused}
+use Rattle.prelude.specs.declared.Verdict.{Verdict}
+use Rattle.prelude.specs.declared.Verdict.the-variants.{Accepted, Refused}
 use Rattle.form_build.specs.Paged.{afterSaid}
-use Rattle.lists.specs.Lists.{lists}
+use Rattle.nodes.specs.Lists.{lists}
 use Rattle.output.specs.Output as out
 use Rattle.output.specs.Output.{Input, input, roomOf, buildOf}
 use Rattle.build_profile.specs.Pages.{pagesOf}

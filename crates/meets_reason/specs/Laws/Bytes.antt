@@ -9,12 +9,12 @@ use native.Mathlib.Omega.{arith}
 use borrow.Author.Tests.{leb-true, leb-false}
 use lib.Dec.{leb}
 use lib.ListN.{length, drop}
-use Rattle.refusal.specs.Laws.Bools.{either, both, clash, neither}
+use Rattle.prelude.specs.Laws.Bools.{either, both, clash, neither}
 use Rattle.sort.specs.Laws.Sorted.{le-or-lt}
 use Rattle.record_lines.specs.Items.{Item, gives, passes, ends, bad}
 use Rattle.record_lines.specs.Pieces.{Piece, piece, endOf}
-use Rattle.record_fault.specs.Reading.{formatBy, newPieces, stateAfter, isNew}
-use Rattle.record_fault.specs.Trail.{trail}
+use Rattle.record_scan.specs.Reading.{formatBy, newPieces, stateAfter, isNew}
+use Rattle.record_scan.specs.Trail.{trail}
 use Rattle.record_reason.specs.Reasons.{itemOf, addressIn, giver, lower, lowestFrom, lowest}
 use Rattle.record_reason.specs.Theorems.Reasons as why
 use Rattle.record_reason.specs.Theorems.Reasons.{giver-is-first}

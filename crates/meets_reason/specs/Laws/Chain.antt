@@ -3,8 +3,8 @@ use mathlib.Core.Path.{_≡_, refl, sym, subst}
 use mathlib.Core.Bool.{Bool, true, false}
 use Prim.Native.Nat.{ℕ}
 use lib.Dec.{eqb}
-use Rattle.refusal.specs.Laws.Pick.{pick-false}
-use Rattle.refusal.specs.Pick.{pick}
+use Rattle.prelude.specs.Laws.Pick.{pick-false}
+use Rattle.prelude.specs.Pick.{pick}
 use Rattle.record_reason.specs.Spelling.{orElse}
 use Rattle.record_reason.specs.Reasons as reasons
 use Rattle.record_reason.specs.declared.Cause.{Cause}

@@ -6,14 +6,14 @@ use Prim.Native.Nat.{ℕ, zero, suc, _+_, _-_, _*_, max}
 use borrow.Author.Tests.{ne-eqb}
 use lib.Dec.{ltb, leb, eqb}
 use lib.ListN.{length, getD}
-use Rattle.refusal.specs.Pick.{pick}
+use Rattle.prelude.specs.Pick.{pick}
 use Rattle.record_lines.specs.Digits.{pairAt}
 use Rattle.record_lines.specs.Items.{Item, Format}
 use Rattle.record_lines.specs.Lines.{linesOf}
 use Rattle.record_ihex_line.specs.Format.{wordAt, hexItem}
 use Rattle.record_srec_line.specs.Srec.{isS, srecItem}
-use Rattle.record_fault.specs.Reading.{formatBy, Read, sound, faulty, newPieces, stateAfter, isNew, readFrom, readText}
-use Rattle.record_fault.specs.Trail.{Trail, trail, lineAt, nextOf}
+use Rattle.record_scan.specs.Reading.{formatBy, Read, sound, faulty, newPieces, stateAfter, isNew, readFrom, readText}
+use Rattle.record_scan.specs.Trail.{Trail, trail, lineAt, nextOf}
 use Rattle.record_reason.specs.Spelling.{causeOf, orElse, spelled, hexTyped, srecTyped, ownCause, startBy, manyBy, topBy}
 use Rattle.record_reason.specs.Reasons.{lineOf, itemOf, isEnd, endsBefore, giver, addressIn, lowestFrom, lowest, spanCause, lineCause, causeAt, toldOf, whyOf}
 use Rattle.record_reason.specs.declared.Cause.{Cause}

@@ -7,14 +7,14 @@ use Prim.Native.Nat.{ℕ, _+_, _*_}
 use native.Mathlib.Omega.{arith}
 use borrow.Author.Tests.{eq-eqb, ne-eqb, eqb-true, eqb-false}
 use lib.Dec.{ltb, eqb}
-use Rattle.refusal.specs.Laws.Bools.{either, unlike}
+use Rattle.prelude.specs.Laws.Bools.{either, unlike}
 use Rattle.record_lines.specs.Digits.{pairAt}
 use Rattle.record_lines.specs.Items.{Item, gives, passes, ends, bad}
 use Rattle.record_lines.specs.Pieces.{Piece, piece}
 use Rattle.record_ihex_line.specs.Format.{hexItem}
 use Rattle.record_srec_line.specs.Srec.{dataDigit, endDigit, addressOf, dataOf, agrees, fits, dataLine, endLine, typed, srecItem}
 use Rattle.record_srec_line.specs.ReadBack as back
-use Rattle.record_fault.specs.Reading.{formatBy, stateAfter}
+use Rattle.record_scan.specs.Reading.{formatBy, stateAfter}
 use Rattle.says.specs.Records as r
 use Rattle.says.specs.Records.{Hex, Srec, Width}
 use Rattle.meets_records.specs.Laws.HexLine as hex

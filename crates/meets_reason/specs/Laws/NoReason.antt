@@ -8,11 +8,11 @@ use native.Mathlib.Omega.{arith}
 use borrow.Author.Tests.{leb-true}
 use lib.Dec.{leb}
 use lib.ListN.{length, take, drop, length-append}
-use Rattle.refusal.specs.Laws.Bools.{both, unlike}
+use Rattle.prelude.specs.Laws.Bools.{both, unlike}
 use Rattle.record_lines.specs.Items.{Item, gives, bad}
 use Rattle.record_lines.specs.Pieces.{Piece, piece, endOf}
-use Rattle.record_fault.specs.Reading.{formatBy, newPieces, stateAfter, fine, isNew}
-use Rattle.record_fault.specs.Trail.{trail}
+use Rattle.record_scan.specs.Reading.{formatBy, newPieces, stateAfter, fine, isNew}
+use Rattle.record_scan.specs.Trail.{trail}
 use Rattle.record_reason.specs.Reasons.{lineOf, itemOf}
 use Rattle.c_answers.specs.declared.DkReason.{DkReason}
 use Rattle.says.specs.Words as w

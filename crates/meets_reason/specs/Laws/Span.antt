@@ -8,12 +8,12 @@ use native.Mathlib.Omega.{arith}
 use borrow.Author.Tests.{ltb-true, ltb-false, le-leb}
 use lib.Dec.{ltb}
 use lib.ListN.{length, drop}
-use Rattle.refusal.specs.Laws.Bools.{either, clash, unlike}
-use Rattle.refusal.specs.Pick.{pick}
+use Rattle.prelude.specs.Laws.Bools.{either, clash, unlike}
+use Rattle.prelude.specs.Pick.{pick}
 use Rattle.record_lines.specs.Items.{gives, bad}
 use Rattle.record_lines.specs.Pieces.{Piece, piece, endOf}
-use Rattle.record_fault.specs.Reading.{formatBy, newPieces, fine, isNew}
-use Rattle.record_fault.specs.Trail.{trail}
+use Rattle.record_scan.specs.Reading.{formatBy, newPieces, fine, isNew}
+use Rattle.record_scan.specs.Trail.{trail}
 use Rattle.record_reason.specs.Spelling.{causeOf}
 use Rattle.record_reason.specs.Reasons.{itemOf, addressIn, giver, lowest, spanCause}
 use Rattle.record_reason.specs.declared.Cause.{Cause}

@@ -10,8 +10,8 @@ use borrow.Author.Tests.{ltb-true, ltb-false, eqb-true, eq-eqb}
 use lib.Dec.{ltb, eqb}
 use lib.ListN.{length, getD, take, drop, length-drop}
 use lib.Seq.{getD-drop}
-use Rattle.refusal.specs.Laws.Bools.{either, both, clash}
-use Rattle.refusal.specs.Laws.Pick.{pick-true, pick-false}
+use Rattle.prelude.specs.Laws.Bools.{either, both, clash}
+use Rattle.prelude.specs.Laws.Pick.{pick-true, pick-false}
 use Rattle.bitvec.specs.Lists.{listOf}
 use Rattle.record_lines.specs.Digits.{valueOf, isDigit, allDigits, pairAt, bytesAt}
 use Rattle.record_lines.specs.Sums.{sumOf}

@@ -5,12 +5,12 @@ use mathlib.Core.List.{List, [], _∷_, _++_, append-nil}
 use Prim.Native.Nat.{ℕ, zero, suc, _+_, _-_, _≤_, _<_}
 use native.Mathlib.Omega.{arith}
 use lib.ListN.{length, drop}
-use Rattle.refusal.specs.Laws.Bools.{unlike}
-use Rattle.refusal.specs.Pick.{pick}
+use Rattle.prelude.specs.Laws.Bools.{unlike}
+use Rattle.prelude.specs.Pick.{pick}
 use Rattle.record_lines.specs.Items.{Item, gives, passes, ends, bad}
 use Rattle.record_lines.specs.Pieces.{Piece}
-use Rattle.record_fault.specs.Reading.{formatBy, Read, sound, faulty, later, newPieces, stateAfter, fine, isNone, goOn, readFrom, readText}
-use Rattle.record_fault.specs.Trail.{trail}
+use Rattle.record_scan.specs.Reading.{formatBy, Read, sound, faulty, later, newPieces, stateAfter, fine, isNone, goOn, readFrom, readText}
+use Rattle.record_scan.specs.Trail.{trail}
 use Rattle.record_reason.specs.Reasons.{itemOf, isEnd, endsBefore}
 use Rattle.meets_records.specs.Laws.Faults.{later-fault}
 use Rattle.meets_reason.specs.Laws.Items.{Kept, ended, skipped}

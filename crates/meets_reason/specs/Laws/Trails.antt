@@ -7,8 +7,8 @@ use lib.ListN.{length, drop}
 use lib.Seq.{drop-drop}
 use Rattle.record_lines.specs.Lines.{linesOf, firstLine, taken}
 use Rattle.record_lines.specs.Theorems.Lines.{lines-first}
-use Rattle.record_fault.specs.Reading.{later, stateAfter}
-use Rattle.record_fault.specs.Trail.{trail}
+use Rattle.record_scan.specs.Reading.{later, stateAfter}
+use Rattle.record_scan.specs.Trail.{trail}
 use Rattle.record_reason.specs.Reasons.{lineOf, itemOf}
 use Rattle.says.specs.Words.{At}
 use Rattle.says.specs.Reason as s

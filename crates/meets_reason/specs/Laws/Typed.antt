@@ -8,16 +8,16 @@ use native.Mathlib.Omega.{arith}
 use borrow.Author.Tests.{leb-true, leb-false, eqb-true, eqb-false, eq-eqb, ne-eqb, lt-ltb}
 use lib.Dec.{leb, eqb}
 use lib.ListN.{length, getD}
-use Rattle.refusal.specs.Laws.Bools.{either, clash}
-use Rattle.refusal.specs.Pick.{pick}
+use Rattle.prelude.specs.Laws.Bools.{either, clash}
+use Rattle.prelude.specs.Pick.{pick}
 use Rattle.bitvec.specs.Laws.Lists.{length-listOf}
 use Rattle.record_lines.specs.Digits.{pairAt, bytesAt}
 use Rattle.record_lines.specs.Items.{Item}
 use Rattle.record_ihex_line.specs.Format.{wordAt, countOf, fieldOf, typeOf, goodLine, byType, hexItem}
 use Rattle.record_srec_line.specs.Srec.{dataDigit, endDigit, isSound, agrees, endLine, headerLine, typed, srecItem}
 use Rattle.record_srec_line.specs.ReadBack as back
-use Rattle.record_fault.specs.Reading.{formatBy}
-use Rattle.record_fault.specs.Trail.{trail}
+use Rattle.record_scan.specs.Reading.{formatBy}
+use Rattle.record_scan.specs.Trail.{trail}
 use Rattle.record_reason.specs.Spelling.{causeOf, nothing, orElse, fieldsOf, hexTyped, dataTyped, endTyped, srecTyped}
 use Rattle.record_reason.specs.declared.Cause.{Cause}
 use Rattle.c_answers.specs.declared.DkReason.{DkReason}

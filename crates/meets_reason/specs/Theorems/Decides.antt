@@ -5,7 +5,7 @@ use mathlib.Core.List.{List}
 use Prim.Native.Nat.{ℕ, _+_, _-_, _<_}
 use native.Mathlib.Omega.{arith}
 use lib.ListN.{length, getD}
-use Rattle.refusal.specs.Laws.Pick.{paired}
+use Rattle.prelude.specs.Laws.Pick.{paired}
 use Rattle.record_lines.specs.Pieces.{Piece}
 use Rattle.c_answers.specs.declared.DkReason.{DkReason}
 use Rattle.meets.specs.Laws.Words.{OneOnly, tries-one, first-one, first-pair-one}

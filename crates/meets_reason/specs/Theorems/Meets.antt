@@ -9,9 +9,9 @@ use native.Mathlib.Omega.{arith}
 use borrow.Author.Tests.{ltb-true, ltb-false, eqb-true, eqb-false, eq-eqb, ne-eqb, le-leb, lt-leb}
 use lib.Dec.{ltb, eqb}
 use lib.ListN.{length, getD, drop, length-drop}
-use Rattle.refusal.specs.Laws.Bools.{either, clash, unlike}
-use Rattle.refusal.specs.Laws.Pick.{paired}
-use Rattle.refusal.specs.Pick.{pick}
+use Rattle.prelude.specs.Laws.Bools.{either, clash, unlike}
+use Rattle.prelude.specs.Laws.Pick.{paired}
+use Rattle.prelude.specs.Pick.{pick}
 use Rattle.bitvec.specs.Lists.{listOf}
 use Rattle.bitvec.specs.Laws.Lists.{length-listOf}
 use Rattle.record_lines.specs.Digits.{allDigits, pairAt, bytesAt}
@@ -23,8 +23,8 @@ use Rattle.record_lines.specs.Sums.{sumOf}
 use Rattle.record_ihex_line.specs.Format.{goodLine, typeOf, fieldOf, countOf}
 use Rattle.record_srec_line.specs.Srec.{isS, isSound, addressOf, dataOf, dataDigit, agrees, numberFrom}
 use Rattle.record_srec_line.specs.ReadBack as back
-use Rattle.record_fault.specs.Reading.{formatBy, Read, sound, faulty, readText}
-use Rattle.record_fault.specs.Trail.{trail}
+use Rattle.record_scan.specs.Reading.{formatBy, Read, sound, faulty, readText}
+use Rattle.record_scan.specs.Trail.{trail}
 use Rattle.record_reason.specs.Spelling.{causeOf, orElse, leading, wantedOf, sumCause, spelled, hexTyped, srecTyped, ownCause}
 use Rattle.record_reason.specs.Spelling.{startBy, manyBy, topBy}
 use Rattle.record_reason.specs.Reasons.{itemOf, isEnd, endsBefore, spanCause, lineCause, causeAt, whyOf}

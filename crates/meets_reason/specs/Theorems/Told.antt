@@ -8,8 +8,8 @@ use native.Mathlib.Omega.{arith}
 use borrow.Author.Tests.{lt-ltb}
 use lib.ListN.{drop}
 use Rattle.record_lines.specs.Pieces.{Piece}
-use Rattle.record_fault.specs.Reading.{Read, sound, faulty, readText}
-use Rattle.record_fault.specs.Outcome.{faultOf}
+use Rattle.record_scan.specs.Reading.{Read, sound, faulty, readText}
+use Rattle.record_scan.specs.Outcome.{faultOf}
 use Rattle.record_reason.specs.Reasons.{whyOf}
 use Rattle.c_answers.specs.declared.DkReason.{DkReason}
 use Rattle.c_answers.specs.Parts.{lineTold, reasonTold}

@@ -5,11 +5,11 @@ use mathlib.Core.List.{List, [], _∷_, _++_}
 use Prim.Native.Nat.{ℕ, zero, suc, _<_}
 use native.Mathlib.Omega.{arith}
 use lib.ListN.{take}
-use Rattle.refusal.specs.Laws.Bools.{clash, unlike}
-use Rattle.refusal.specs.Pick.{pick}
+use Rattle.prelude.specs.Laws.Bools.{clash, unlike}
+use Rattle.prelude.specs.Pick.{pick}
 use Rattle.record_lines.specs.Items.{Item, gives, passes, ends, bad, Format}
 use Rattle.record_lines.specs.Pieces.{Piece}
-use Rattle.record_fault.specs.Reading.{Read, sound, faulty, later, newPieces, fine, isNone, goOn, readFrom}
+use Rattle.record_scan.specs.Reading.{Read, sound, faulty, later, newPieces, fine, isNone, goOn, readFrom}
 
 tail-of : List (List ℕ) → List (List ℕ)
 tail-of [] = []

@@ -8,7 +8,7 @@ use native.Mathlib.Decide.{ℕ-discrete}
 use native.Mathlib.Omega.{arith}
 use borrow.Author.Tests.{eq-eqb, ne-eqb}
 use lib.ListN.{length, getD}
-use Rattle.refusal.specs.Laws.Bools.{clash, unlike}
+use Rattle.prelude.specs.Laws.Bools.{clash, unlike}
 use Rattle.record_lines.specs.Items.{Item, gives, passes, ends, Format}
 use Rattle.record_lines.specs.Lines.{linesOf}
 use Rattle.record_lines.specs.Pieces.{Piece, piece}
@@ -19,7 +19,7 @@ use Rattle.record_ihex_line.specs.Format.{hexItem}
 use Rattle.record_ihex_line.specs.ReadBack.{lineOf}
 use Rattle.record_srec_line.specs.Srec.{dataDigit, endDigit, lineText, agrees, srecItem}
 use Rattle.record_srec_line.specs.ReadBack as back
-use Rattle.record_fault.specs.Reading.{formatBy}
+use Rattle.record_scan.specs.Reading.{formatBy}
 use Rattle.says.specs.Records as r
 use Rattle.says.specs.Records.{Lines, Digit, Spells, Hex, Number, Srec}
 use Rattle.says.specs.Read as s

@@ -8,7 +8,7 @@ use native.Mathlib.Omega.{arith}
 use lib.ListN.{length, getD}
 use Rattle.sort.specs.Laws.Sorted.{le-or-lt}
 use Rattle.record_lines.specs.Pieces.{Piece, piece, endOf, GivesAt}
-use Rattle.record_fault.specs.Steps.{highest}
+use Rattle.record_scan.specs.Steps.{highest}
 use Rattle.record_read.specs.Given.{given}
 use Rattle.record_read.specs.Laws.Facts.{given-gives, gives-given}
 use Rattle.says.specs.Words.{At}

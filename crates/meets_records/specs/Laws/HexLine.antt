@@ -8,7 +8,7 @@ use borrow.Author.Tests.{eqb-true, eq-eqb, ne-eqb}
 use lib.Dec.{eqb}
 use lib.ListN.{length, getD, drop, length-append, List·getD-append}
 use lib.Seq.{ext-getD}
-use Rattle.refusal.specs.Laws.Bools.{either, clash, both}
+use Rattle.prelude.specs.Laws.Bools.{either, clash, both}
 use Rattle.bitvec.specs.Bits.{Bytes}
 use Rattle.bitvec.specs.Lists.{listOf}
 use Rattle.bitvec.specs.Laws.Lists.{length-listOf, getD-listOf}

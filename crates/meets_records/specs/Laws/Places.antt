@@ -8,7 +8,7 @@ use native.Mathlib.Omega.{arith}
 use borrow.Author.Tests.{leb-true, leb-false, eqb-true, eqb-false}
 use lib.Dec.{leb, eqb}
 use lib.ListN.{length, getD}
-use Rattle.refusal.specs.Laws.Bools.{either, clash}
+use Rattle.prelude.specs.Laws.Bools.{either, clash}
 use Rattle.bitvec.specs.Part.{isPart}
 use Rattle.bitvec.specs.Theorems.Part.{isPart-when}
 use Rattle.record_write.specs.Cut.{blocksIn}

@@ -8,11 +8,11 @@ use native.Mathlib.Omega.{arith}
 use borrow.Author.Tests.{le-leb, leb-true}
 use lib.Dec.{leb}
 use lib.ListN.{length, getD}
-use Rattle.refusal.specs.Laws.Bools.{either, both, or-right}
+use Rattle.prelude.specs.Laws.Bools.{either, both, or-right}
 use Rattle.sort.specs.Laws.Sorted.{le-or-lt}
 use Rattle.record_lines.specs.Items.{gives}
 use Rattle.record_lines.specs.Pieces.{Piece, piece, endOf}
-use Rattle.record_fault.specs.Reading.{newPieces, isNew, fine}
+use Rattle.record_scan.specs.Reading.{newPieces, isNew, fine}
 use Rattle.says.specs.Read as s
 use Rattle.says.specs.Read.{Gives, GivenTo}
 

@@ -8,9 +8,9 @@ use native.Mathlib.Decide.{decLt}
 use native.Mathlib.Omega.{arith}
 use borrow.Author.Tests.{lt-ltb, le-ltb, ltb-true, eqb-true, eqb-false}
 use lib.ListN.{length, getD}
-use Rattle.refusal.specs.Laws.Bools.{either, both}
-use Rattle.refusal.specs.Pick.{pick}
-use Rattle.refusal.specs.Laws.Pick.{pick-true}
+use Rattle.prelude.specs.Laws.Bools.{either, both}
+use Rattle.prelude.specs.Pick.{pick}
+use Rattle.prelude.specs.Laws.Pick.{pick-true}
 use Rattle.bitvec.specs.Bits.{Bytes}
 use Rattle.bitvec.specs.Lists.{listOf}
 use Rattle.record_lines.specs.Digits.{valueOf, letterOf, isDigit, allDigits, pairAt, bytesText}

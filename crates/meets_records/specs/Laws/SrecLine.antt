@@ -9,7 +9,7 @@ use borrow.Author.Tests.{ltb-true, lt-ltb, leb-true, le-leb, eqb-true, eq-eqb}
 use lib.Dec.{leb, ltb, eqb}
 use lib.ListN.{length, getD, drop, length-append}
 use lib.Seq.{ext-getD}
-use Rattle.refusal.specs.Laws.Bools.{either, clash, both}
+use Rattle.prelude.specs.Laws.Bools.{either, clash, both}
 use Rattle.bitvec.specs.Bits.{Bytes}
 use Rattle.bitvec.specs.Lists.{listOf}
 use Rattle.bitvec.specs.Laws.Lists.{length-listOf, getD-listOf}

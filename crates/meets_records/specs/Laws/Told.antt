@@ -4,12 +4,12 @@ use mathlib.Core.Bool.{Bool, true, false}
 use mathlib.Core.List.{List, [], _∷_, _++_, append-nil, append-assoc}
 use Prim.Native.Nat.{ℕ}
 use lib.ListN.{take}
-use Rattle.refusal.specs.Laws.Bools.{unlike}
-use Rattle.refusal.specs.Pick.{pick}
+use Rattle.prelude.specs.Laws.Bools.{unlike}
+use Rattle.prelude.specs.Pick.{pick}
 use Rattle.record_lines.specs.Items.{Item, gives, passes, ends, bad, Format}
 use Rattle.record_lines.specs.Pieces.{Piece, piece}
 use Rattle.record_lines.specs.Telling.{Tells, closes, skips, tells}
-use Rattle.record_fault.specs.Reading.{Read, sound, faulty, later, newPieces, fine, isNone, goOn, readFrom}
+use Rattle.record_scan.specs.Reading.{Read, sound, faulty, later, newPieces, fine, isNone, goOn, readFrom}
 use Rattle.meets_records.specs.Laws.Faults.{later-fault}
 use Rattle.meets_records.specs.Laws.Sits.{newOf, solid, new-is, Sits}
 

@@ -7,7 +7,7 @@ use native.Mathlib.Omega.{arith}
 use borrow.Author.Tests.{eqb-true, eqb-false}
 use lib.Dec.{eqb}
 use lib.ListN.{length}
-use Rattle.refusal.specs.Pick.{pick}
+use Rattle.prelude.specs.Pick.{pick}
 use Rattle.record_lines.specs.Pieces.{Piece}
 use Rattle.record_lines.specs.Laws.Spelled.{bytes-none}
 use Rattle.record_lines.specs.Telling.{Sits, Rises}

@@ -11,13 +11,13 @@ use native.Mathlib.Omega.{arith}
 use borrow.Author.Tests.{eqb-true, eqb-false, lt-ltb, le-ltb}
 use lib.Dec.{eqb}
 use lib.ListN.{length, getD}
-use Rattle.refusal.specs.Laws.Bools.{unlike}
-use Rattle.refusal.specs.Laws.Pick.{paired}
-use Rattle.refusal.specs.Pick.{pick}
+use Rattle.prelude.specs.Laws.Bools.{unlike}
+use Rattle.prelude.specs.Laws.Pick.{paired}
+use Rattle.prelude.specs.Pick.{pick}
 use Rattle.sort.specs.Laws.Sorted.{le-or-lt}
 use Rattle.record_lines.specs.Pieces.{Piece}
-use Rattle.record_fault.specs.Reading.{Read, sound, faulty, readText}
-use Rattle.record_fault.specs.Steps.{highest}
+use Rattle.record_scan.specs.Reading.{Read, sound, faulty, readText}
+use Rattle.record_scan.specs.Steps.{highest}
 use Rattle.record_extent.specs.Extent.{lowestOf, extentOf}
 use Rattle.record_read.specs.Laws.GivenLaws.{given-below}
 use Rattle.c_answers.specs.Parts.{extentTold}

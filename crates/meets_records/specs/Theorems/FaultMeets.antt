@@ -5,12 +5,12 @@ use Prim.Native.Nat.{ℕ, suc, _<_}
 use native.Mathlib.Decide.{decLt}
 use native.Mathlib.Omega.{arith}
 use borrow.Author.Tests.{lt-ltb, le-ltb}
-use Rattle.refusal.specs.Laws.Bools.{unlike}
-use Rattle.refusal.specs.Laws.Pick.{paired}
+use Rattle.prelude.specs.Laws.Bools.{unlike}
+use Rattle.prelude.specs.Laws.Pick.{paired}
 use Rattle.record_lines.specs.Lines.{linesOf}
 use Rattle.record_lines.specs.Pieces.{Piece}
-use Rattle.record_fault.specs.Reading.{formatBy, Read, sound, faulty, readFrom, readText}
-use Rattle.record_fault.specs.Outcome.{faultOf}
+use Rattle.record_scan.specs.Reading.{formatBy, Read, sound, faulty, readFrom, readText}
+use Rattle.record_scan.specs.Outcome.{faultOf}
 use Rattle.c_answers.specs.Parts.{lineTold}
 use Rattle.c_answers.specs.declared.DkFault.{DkFault}
 use Rattle.c_model.specs.RecordFiles.{readAs, FaultTold}

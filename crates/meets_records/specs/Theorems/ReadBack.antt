@@ -9,8 +9,8 @@ use native.Mathlib.Omega.{arith}
 use borrow.Author.Tests.{eqb-true, eqb-false, ne-eqb}
 use lib.Dec.{eqb}
 use lib.ListN.{length, getD, take}
-use Rattle.refusal.specs.Laws.Bools.{either}
-use Rattle.refusal.specs.Pick.{pick}
+use Rattle.prelude.specs.Laws.Bools.{either}
+use Rattle.prelude.specs.Pick.{pick}
 use Rattle.sort.specs.Laws.Sorted.{le-or-lt}
 use Rattle.record_lines.specs.Pieces.{Piece}
 use Rattle.blocks.specs.Outcome.{origins, sizes}

@@ -8,7 +8,7 @@ use borrow.Author.Tests.{eqb-true, eqb-false}
 use lib.Dec.{eqb}
 use lib.ListN.{length, getD}
 use lib.Seq.{ext-getD}
-use Rattle.refusal.specs.Laws.Bools.{either}
+use Rattle.prelude.specs.Laws.Bools.{either}
 use Rattle.sort.specs.Laws.Sorted.{le-or-lt}
 use Rattle.record_lines.specs.Pieces.{Piece}
 use Rattle.meets.specs.Laws.Words.{OneOnly, tries-one, begins-one}

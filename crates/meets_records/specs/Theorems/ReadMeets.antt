@@ -8,18 +8,18 @@ use native.Mathlib.Decide.{decLt}
 use native.Mathlib.Omega.{arith}
 use borrow.Author.Tests.{leb-true, leb-false, lt-ltb, le-ltb}
 use lib.ListN.{length, getD, length-map, List·getD-eq-default}
-use Rattle.refusal.specs.Laws.Bools.{either, unlike}
-use Rattle.refusal.specs.Pick.{pick}
-use Rattle.refusal.specs.declared.Refusal.the-variants.{TooShort}
+use Rattle.prelude.specs.Laws.Bools.{either, unlike}
+use Rattle.prelude.specs.Pick.{pick}
+use Rattle.prelude.specs.declared.Refusal.the-variants.{TooShort}
 use Rattle.sort.specs.Laws.Sorted.{le-or-lt}
 use Rattle.blocks.specs.declared.Block.{Block}
 use Rattle.blocks.specs.declared.Blocks.the-variants.{Found, Refused}
 use Rattle.blocks.specs.Theorems.Exactly.{room-exactly, no-room-exactly}
 use Rattle.blocks.specs.Outcome.{origins, sizes, over}
 use Rattle.record_lines.specs.Pieces.{Piece}
-use Rattle.record_fault.specs.Reading.{Read, sound, faulty, readText}
-use Rattle.record_fault.specs.Sound.{Fine}
-use Rattle.record_fault.specs.Theorems.Sound.{sound-pieces-fine}
+use Rattle.record_scan.specs.Reading.{Read, sound, faulty, readText}
+use Rattle.record_scan.specs.Sound.{Fine}
+use Rattle.record_scan.specs.Theorems.Sound.{sound-pieces-fine}
 use Rattle.record_read.specs.Given.{given, byteAt, filled}
 use Rattle.record_read.specs.Laws.GivenLaws.{given-below}
 use Rattle.record_read.specs.Theorems.GivenLaws.{filled-at, filled-long}

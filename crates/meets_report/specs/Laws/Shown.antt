@@ -8,13 +8,13 @@ use native.Mathlib.Omega.{arith}
 use lib.Dec.{eqb}
 use lib.ListN.{length, take, length-take}
 use borrow.Author.Tests.{eqb-false}
-use Rattle.refusal.specs.Laws.Bools.{neither}
-use Rattle.refusal.specs.Theorems.Told.{number-some}
-use Rattle.refusal.specs.Refusals.{numberOf, placeOf}
-use Rattle.refusal.specs.declared.Refusal.{Refusal}
-use Rattle.refusal.specs.declared.Refusal.the-variants.{BankCount, BankNumber, BanksOverlap, Malformed, PositionPast, LabelOffBoundary, Unresolved}
-use Rattle.refusal.specs.declared.Refusal.the-variants.{DefaultBank, PastBank, NoOutput, Overlap, StoreFull, TooShort, BadStore, BadPart, PartlyCovered}
-use Rattle.refusal.specs.declared.Refusal.the-variants.{FillBitDropped, OffProfile}
+use Rattle.prelude.specs.Laws.Bools.{neither}
+use Rattle.prelude.specs.Theorems.Told.{number-some}
+use Rattle.prelude.specs.Refusals.{numberOf, placeOf}
+use Rattle.prelude.specs.declared.Refusal.{Refusal}
+use Rattle.prelude.specs.declared.Refusal.the-variants.{BankCount, BankNumber, BanksOverlap, Malformed, PositionPast, LabelOffBoundary, Unresolved}
+use Rattle.prelude.specs.declared.Refusal.the-variants.{DefaultBank, PastBank, NoOutput, Overlap, StoreFull, TooShort, BadStore, BadPart, PartlyCovered}
+use Rattle.prelude.specs.declared.Refusal.the-variants.{FillBitDropped, OffProfile}
 use Rattle.sort.specs.Numbers.{order}
 use Rattle.iter.specs.declared.Lost.{Lost}
 use Rattle.blocks.specs.Spans.{spansOf}

@@ -5,11 +5,11 @@ use mathlib.Core.List.{List}
 use Prim.Native.Nat.{ℕ, _+_, _-_}
 use native.Mathlib.Omega.{arith}
 use lib.ListN.{length, drop, length-append, length-drop, length-map}
-use Rattle.refusal.specs.declared.Opt.{Opt}
-use Rattle.refusal.specs.declared.Opt.the-variants.{None, Some}
+use Rattle.prelude.specs.declared.Opt.{Opt}
+use Rattle.prelude.specs.declared.Opt.the-variants.{None, Some}
 use Rattle.bankdef.specs.declared.Bankdefs.{Bankdefs}
-use Rattle.build_sights.specs.Spans.{spansOf, words, sizes, over}
-use Rattle.build_sights.specs.declared.Visit.{Visit}
+use Rattle.build_visits.specs.Spans.{spansOf, words, sizes, over}
+use Rattle.build_visits.specs.declared.Visit.{Visit}
 use Rattle.form_fields.specs.Banks.{tableOf}
 use Rattle.form_fields.specs.Whole.{Bytes}
 use Rattle.form_build.specs.Filed.{listsIn, fileOutput, fileVisits}

@@ -7,7 +7,7 @@ use Prim.Native.Nat.{ℕ, zero, suc, _≤_, _<_}
 use native.Mathlib.Omega.{arith}
 use lib.ListN.{length, getD, take}
 use lib.Seq.{take-at}
-use Rattle.refusal.specs.declared.Opt.{Opt}
+use Rattle.prelude.specs.declared.Opt.{Opt}
 use Rattle.form_fields.specs.Whole.{Bytes}
 use Rattle.print_text.specs.Puts.{Puts}
 use Rattle.print_text.specs.declared.Written.{Written}

@@ -6,7 +6,7 @@ use mathlib.Core.List.{List, _++_}
 use Prim.Native.Nat.{ℕ}
 use native.Mathlib.Omega.{arith}
 use lib.ListN.{length, replicate, length-replicate}
-use Rattle.refusal.specs.declared.Opt.{Opt}
+use Rattle.prelude.specs.declared.Opt.{Opt}
 use Rattle.print_text.specs.Ascii.{ascii}
 use Rattle.says.specs.Blocks.{Block as Run}
 use Rattle.says.specs.Build.{Lent, Outcome}

@@ -9,10 +9,10 @@ use borrow.Author.Tests.{le-leb, eq-eqb, eqb-true, eqb-false}
 use lib.Dec.{leb, eqb}
 use lib.ListN.{length, take, drop, length-take, length-map}
 use lib.Seq.{take-at}
-use Rattle.refusal.specs.Laws.Bools.{either, both, clash}
-use Rattle.refusal.specs.Pick.{pick}
-use Rattle.refusal.specs.declared.Opt.{Opt}
-use Rattle.refusal.specs.declared.Refusal.the-variants.{Malformed, TooShort, BadPart}
+use Rattle.prelude.specs.Laws.Bools.{either, both, clash}
+use Rattle.prelude.specs.Pick.{pick}
+use Rattle.prelude.specs.declared.Opt.{Opt}
+use Rattle.prelude.specs.declared.Refusal.the-variants.{Malformed, TooShort, BadPart}
 use Rattle.bitvec.specs.Bits.{Bytes}
 use Rattle.iter.specs.declared.Lost.{Lost}
 use Rattle.blocks.specs.declared.Block.{Block}

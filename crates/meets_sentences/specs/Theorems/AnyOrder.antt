@@ -10,7 +10,7 @@ use borrow.Author.Tests.{eqb-true, eqb-false}
 use lib.Dec.{eqb}
 use lib.IntN.{ℤ}
 use lib.ListN.{length, getD}
-use Rattle.refusal.specs.Laws.Bools.{either}
+use Rattle.prelude.specs.Laws.Bools.{either}
 use Rattle.sort.specs.Laws.Sorted.{le-or-lt}
 use Rattle.bitvec.specs.Bits.{bitAt}
 use Rattle.bitvec.specs.Theorems.Bits.{same-bits}

@@ -10,7 +10,7 @@ use lib.Dec.{eqb}
 use lib.IntN.{ℤ, pos, _+ℤ_}
 use lib.ListN.{length, getD, replicate}
 use lib.Seq.{ext-getD}
-use Rattle.refusal.specs.Laws.Bools.{either}
+use Rattle.prelude.specs.Laws.Bools.{either}
 use Rattle.bitvec.specs.Bits.{bitAt}
 use Rattle.bitvec.specs.Theorems.Bits.{same-bits}
 use Rattle.sort.specs.Laws.Sorted.{le-or-lt}

@@ -10,7 +10,7 @@ use native.Mathlib.Decide.{decLt}
 use native.Mathlib.Omega.{arith}
 use lib.IntN.{ℤ, pos, natAbs}
 use lib.ListN.{length, getD, replicate, length-replicate, getD-replicate, List·getD-eq-default}
-use Rattle.build_sights.specs.Laws.ItemLaws.{zeros-bit, zeros-bytes}
+use Rattle.build_visits.specs.Laws.ItemLaws.{zeros-bit, zeros-bytes}
 use Rattle.sort.specs.Laws.Sorted.{le-or-lt}
 use Rattle.iter.specs.declared.Lost.{Lost}
 use Rattle.says.specs.Words as w

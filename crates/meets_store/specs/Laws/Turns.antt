@@ -5,11 +5,11 @@ use mathlib.Core.List.{List, [], _∷_}
 use mathlib.Core.Logic.{_↔_}
 use Prim.Native.Nat.{ℕ, _<_}
 use native.Mathlib.Omega.{arith}
-use Rattle.refusal.specs.Told.{Told, gives, refuses, Nothing, toldNumber, toldVerdict}
-use Rattle.refusal.specs.Theorems.Told.{number-some}
-use Rattle.refusal.specs.Refusals.{placeOf}
-use Rattle.refusal.specs.declared.Verdict.{Verdict}
-use Rattle.refusal.specs.declared.Verdict.the-variants.{Accepted, Refused}
+use Rattle.prelude.specs.Told.{Told, gives, refuses, Nothing, toldNumber, toldVerdict}
+use Rattle.prelude.specs.Theorems.Told.{number-some}
+use Rattle.prelude.specs.Refusals.{placeOf}
+use Rattle.prelude.specs.declared.Verdict.{Verdict}
+use Rattle.prelude.specs.declared.Verdict.the-variants.{Accepted, Refused}
 use Rattle.overlap_checker.specs.declared.Entry.{Entry}
 use Rattle.overlap_checker.specs.State.{after, isAccepted}
 use Rattle.overlap_checker.specs.Lent as def

@@ -7,11 +7,11 @@ use Prim.Native.Nat.{ℕ, zero, suc, _≤_, _<_}
 use native.Mathlib.Omega.{arith}
 use lib.ListN.{length}
 use Rattle.sort.specs.Laws.Sorted.{le-or-lt}
-use Rattle.refusal.specs.Told.{Told, Nothing, toldVerdict}
-use Rattle.refusal.specs.Theorems.Told.{number-some}
-use Rattle.refusal.specs.declared.Refusal.the-variants.{BadStore}
-use Rattle.refusal.specs.declared.Verdict.{Verdict}
-use Rattle.refusal.specs.declared.Verdict.the-variants.{Refused}
+use Rattle.prelude.specs.Told.{Told, Nothing, toldVerdict}
+use Rattle.prelude.specs.Theorems.Told.{number-some}
+use Rattle.prelude.specs.declared.Refusal.the-variants.{BadStore}
+use Rattle.prelude.specs.declared.Verdict.{Verdict}
+use Rattle.prelude.specs.declared.Verdict.the-variants.{Refused}
 use Rattle.overlap_checker.specs.declared.Entry.{Entry}
 use Rattle.overlap_checker.specs.Interval.{interval}
 use Rattle.overlap_checker.specs.State.{after}

@@ -8,16 +8,16 @@ use borrow.Author.Tests.{leb-true}
 use lib.Dec.{leb}
 use lib.ListN.{replicate, length, getD, take, drop, length-take, length-drop, length-replicate}
 use lib.Seq.{ext-getD, getD-take, getD-drop}
-use Rattle.refusal.specs.Laws.Bools.{either}
-use Rattle.refusal.specs.Laws.Pick.{pick-false}
-use Rattle.refusal.specs.Pick.{pick}
-use Rattle.refusal.specs.declared.Refusal.the-variants.{Malformed, TooShort}
+use Rattle.prelude.specs.Laws.Bools.{either}
+use Rattle.prelude.specs.Laws.Pick.{pick-false}
+use Rattle.prelude.specs.Pick.{pick}
+use Rattle.prelude.specs.declared.Refusal.the-variants.{Malformed, TooShort}
 use Rattle.blocks.specs.declared.Block.{Block}
 use Rattle.print_text.specs.Lines.{refusalText}
 use Rattle.record_lines.specs.Pieces.{Piece}
-use Rattle.record_fault.specs.Reading.{Read, sound, faulty, readText}
-use Rattle.record_fault.specs.Sound.{Fine}
-use Rattle.record_fault.specs.Theorems.Sound.{sound-pieces-fine}
+use Rattle.record_scan.specs.Reading.{Read, sound, faulty, readText}
+use Rattle.record_scan.specs.Sound.{Fine}
+use Rattle.record_scan.specs.Theorems.Sound.{sound-pieces-fine}
 use Rattle.record_read.specs.Given.{given, filled}
 use Rattle.record_read.specs.Laws.Facts.{given-gives}
 use Rattle.record_read.specs.Laws.GivenLaws.{given-below}

@@ -7,10 +7,10 @@ use native.Mathlib.Decide.{decLt}
 use native.Mathlib.Omega.{arith}
 use lib.ListN.{length, getD, length-append, List·getD-append, List·getD-eq-default}
 use lib.Seq.{getD-append-add}
-use Rattle.refusal.specs.Pick.{pick}
+use Rattle.prelude.specs.Pick.{pick}
 use Rattle.bitvec.specs.Bits.{Bytes}
 use Rattle.record_lines.specs.Pieces.{Piece, piece}
-use Rattle.record_fault.specs.Reading.{sound, readText}
+use Rattle.record_scan.specs.Reading.{sound, readText}
 use Rattle.record_read.specs.Given.{holds, byteAt, filled}
 use Rattle.record_read.specs.Theorems.GivenLaws.{filled-at, filled-long}
 use Rattle.says.specs.Records.{Case, Spells, Hex, Srec}

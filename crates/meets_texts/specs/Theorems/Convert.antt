@@ -9,11 +9,11 @@ use lib.Dec.{eqb, ltb}
 use lib.ListN.{length, take, drop}
 use lib.Seq.{take-at}
 use borrow.Author.Tests.{eqb-true, eqb-false}
-use Rattle.refusal.specs.Laws.Bools as bools
-use Rattle.refusal.specs.Limits.{maxNodes, maxRows}
-use Rattle.refusal.specs.Pick.{pick}
-use Rattle.refusal.specs.Refusals.{numberOf, placeOf}
-use Rattle.refusal.specs.Theorems.Told.{number-some}
+use Rattle.prelude.specs.Laws.Bools as bools
+use Rattle.prelude.specs.Limits.{maxNodes, maxRows}
+use Rattle.prelude.specs.Pick.{pick}
+use Rattle.prelude.specs.Refusals.{numberOf, placeOf}
+use Rattle.prelude.specs.Theorems.Told.{number-some}
 use Rattle.form_fields.specs.declared.Form as declared
 use Rattle.form_fields.specs.declared.Form.the-variants.{Sound as SoundForm, Broken as BrokenForm}
 use Rattle.form_fields.specs.Contents.{Contents, written}

@@ -7,12 +7,12 @@ use native.Mathlib.Omega.{arith}
 use lib.Dec.{leb}
 use lib.ListN.{length}
 use borrow.Author.Tests.{leb-true, leb-false}
-use Rattle.refusal.specs.Pick.{pick}
-use Rattle.refusal.specs.declared.Refusal.the-variants.{Malformed}
+use Rattle.prelude.specs.Pick.{pick}
+use Rattle.prelude.specs.declared.Refusal.the-variants.{Malformed}
 use Rattle.print_rehex.specs.Rehex.{longest}
 use Rattle.print_text.specs.Ascii.{ascii}
 use Rattle.print_text.specs.Lines.{refusalText}
-use Rattle.record_fault.specs.Reading.{readText}
+use Rattle.record_scan.specs.Reading.{readText}
 use Rattle.record_reason.specs.Reasons.{whyOf}
 use Rattle.record_reason.specs.declared.Why.{Why}
 use Rattle.c_answers.specs.Parts.{reasonTold}

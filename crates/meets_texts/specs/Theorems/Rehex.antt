@@ -9,20 +9,20 @@ use borrow.Author.Tests.{le-leb, leb-true, leb-false, lt-ltb, eqb-true, eqb-fals
 use lib.Dec.{leb, ltb, eqb}
 use lib.ListN.{length, getD, take, drop, replicate, length-replicate}
 use lib.Seq.{take-at}
-use Rattle.refusal.specs.Laws.Bools.{either, clash, both}
-use Rattle.refusal.specs.Pick.{pick}
-use Rattle.refusal.specs.Refusals.{numberOf, placeOf}
-use Rattle.refusal.specs.Theorems.Told.{number-some}
-use Rattle.refusal.specs.Told.{gives, refuses}
-use Rattle.refusal.specs.declared.Place.the-variants.{One}
-use Rattle.refusal.specs.declared.Refusal.the-variants.{Malformed, BadPart, TooShort}
+use Rattle.prelude.specs.Laws.Bools.{either, clash, both}
+use Rattle.prelude.specs.Pick.{pick}
+use Rattle.prelude.specs.Refusals.{numberOf, placeOf}
+use Rattle.prelude.specs.Theorems.Told.{number-some}
+use Rattle.prelude.specs.Told.{gives, refuses}
+use Rattle.prelude.specs.declared.Place.the-variants.{One}
+use Rattle.prelude.specs.declared.Refusal.the-variants.{Malformed, BadPart, TooShort}
 use Rattle.bitvec.specs.Bits.{Bytes}
 use Rattle.blocks.specs.declared.Block.{Block}
 use Rattle.blocks.specs.declared.Blocks.{Blocks}
 use Rattle.blocks.specs.declared.Blocks.the-variants.{Found, Refused as Unread}
 use Rattle.blocks.specs.Outcome.{toldBy}
-use Rattle.record_fault.specs.Outcome.{faultOf}
-use Rattle.record_fault.specs.Reading.{Read, sound, faulty, readText}
+use Rattle.record_scan.specs.Outcome.{faultOf}
+use Rattle.record_scan.specs.Reading.{Read, sound, faulty, readText}
 use Rattle.record_read.specs.Laws.Found.{Held, held}
 use Rattle.record_read.specs.Outcome as records
 use Rattle.record_read.specs.Outcome.{lent, bytesFit, blocksFit, answerOf, toldOf, lentAfter, Reads}

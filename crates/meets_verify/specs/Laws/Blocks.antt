@@ -7,7 +7,7 @@ use native.Mathlib.Omega.{arith}
 use borrow.Author.Tests.{leb-false, eqb-true, eqb-false, ne-eqb}
 use lib.Dec.{leb, eqb}
 use lib.ListN.{length, getD}
-use Rattle.refusal.specs.Laws.Bools.{either, clash}
+use Rattle.prelude.specs.Laws.Bools.{either, clash}
 use Rattle.overlay.specs.Cover.{coveredBit}
 use Rattle.overlay.specs.Laws.CoverFacts.{covered-by}
 use Rattle.verify.specs.Whole.{whole, allWhole, Sound}

@@ -7,7 +7,7 @@ use Prim.Native.Nat.{ℕ, _+_, _*_, _≤_, _<_}
 use native.Mathlib.Decide.{decLe, ℕ-discrete}
 use native.Mathlib.Omega.{arith}
 use lib.ListN.{length, getD}
-use Rattle.refusal.specs.Laws.Bools.{either, clash}
+use Rattle.prelude.specs.Laws.Bools.{either, clash}
 use Rattle.overlay.specs.Cover.{coveredBit}
 use Rattle.overlay.specs.Order.{inOrder}
 use Rattle.verify.specs.Whole.{allWhole, Sound}

@@ -9,8 +9,8 @@ use native.Mathlib.Omega.{arith}
 use borrow.Author.Tests.{leb-true, leb-false}
 use lib.Dec.{leb}
 use lib.ListN.{length, getD, length-map}
-use Rattle.refusal.specs.Pick.{pick}
-use Rattle.refusal.specs.declared.Refusal.the-variants.{Malformed, BadPart as Unfit, TooShort as Short}
+use Rattle.prelude.specs.Pick.{pick}
+use Rattle.prelude.specs.declared.Refusal.the-variants.{Malformed, BadPart as Unfit, TooShort as Short}
 use Rattle.blocks.specs.Outcome.{over}
 use Rattle.overlay.specs.Order.{inOrder}
 use Rattle.overlay.specs.declared.Listed.{Listed as Answer}

@@ -6,23 +6,23 @@ use Prim.Native.Nat.{ℕ, _*_, _≤_}
 use borrow.Author.Tests.{ltb-false}
 use lib.Dec.{ltb}
 use lib.ListN.{length}
-use Rattle.refusal.specs.Laws.Bools.{unlike}
-use Rattle.refusal.specs.Pick.{pick}
-use Rattle.refusal.specs.declared.Refusal.{Refusal}
-use Rattle.refusal.specs.declared.Refusal.the-variants.{TooShort}
-use Rattle.refusal.specs.declared.Verdict.the-variants.{Accepted as Yes}
+use Rattle.prelude.specs.Laws.Bools.{unlike}
+use Rattle.prelude.specs.Pick.{pick}
+use Rattle.prelude.specs.declared.Refusal.{Refusal}
+use Rattle.prelude.specs.declared.Refusal.the-variants.{TooShort}
+use Rattle.prelude.specs.declared.Verdict.the-variants.{Accepted as Yes}
 use Rattle.bankdef.specs.Check.{checkOf}
 use Rattle.resolver.specs.Theorems.LastPass.{accepted-checked}
 use Rattle.resolver.specs.Passes.{rowOfPass}
 use Rattle.resolver.specs.declared.Settled.{Settled}
 use Rattle.resolver.specs.declared.Settled.the-variants.{At, Refused as Unsettled}
-use Rattle.build_sights.specs.Items.{itemsOf, lengthOf}
+use Rattle.build_visits.specs.Items.{itemsOf, lengthOf}
 use Rattle.build_plan.specs.Placing.{Placed, holds, stops, placedAll}
-use Rattle.build_sights.specs.Spans.{spansOf}
+use Rattle.build_visits.specs.Spans.{spansOf}
 use Rattle.output.specs.Output.{Input, closedOf, Room, roomOf, roomFor, placedBuild, buildRow, settledBuild, buildOf}
 use Rattle.build_plan.specs.Plan.{paddingsOf}
 use Rattle.output.specs.Output.{paddingBy, visitsOf, fillOf, passesOf, settledOf}
-use Rattle.build_sights.specs.declared.Visit.{Visit}
+use Rattle.build_visits.specs.declared.Visit.{Visit}
 use Rattle.output.specs.declared.Build.{Build}
 use Rattle.output.specs.declared.Build.the-variants.{Done, Refused}
 use Rattle.output.specs.declared.Output.{Output}

@@ -3,16 +3,16 @@ use mathlib.Core.Path.{_≡_, ap, _∙_}
 use Prim.Native.Nat.{ℕ, _*_, _≤_}
 use native.Mathlib.Omega.{arith}
 use borrow.Author.Tests.{le-ltb}
-use Rattle.refusal.specs.Laws.Pick.{pick-false}
+use Rattle.prelude.specs.Laws.Pick.{pick-false}
 use Rattle.bankdef.specs.Check.{firstPair}
 use Rattle.bankdef.specs.Fill.{fillFrom, fullLength}
 use Rattle.bankdef.specs.Search.{firstWhere}
 use Rattle.resolver.specs.Layout.{layoutOf}
-use Rattle.lists.specs.Lists.{nodesTo, listsOf}
+use Rattle.nodes.specs.Lists.{nodesTo, listsOf}
 use Rattle.resolver.specs.Once.{passTo}
 use Rattle.resolver.specs.Passes.{first, settledBy}
-use Rattle.build_sights.specs.Visits.{visitsTo, each}
-use Rattle.build_sights.specs.Items.{lengthOf}
+use Rattle.build_visits.specs.Visits.{visitsTo, each}
+use Rattle.build_visits.specs.Items.{lengthOf}
 use Rattle.build_plan.specs.Placing.{placedFrom}
 use Rattle.output.specs.Output.{Input, Lent, Room, roomOf, roomFor, buildOf, Builds}
 use Rattle.output.specs.declared.Build.{Build}

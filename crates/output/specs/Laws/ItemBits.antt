@@ -3,17 +3,17 @@ use mathlib.Core.Path.{_≡_, refl, sym, subst}
 use mathlib.Core.Bool.{Bool, true, false}
 use mathlib.Core.List.{List, [], List·Memᴰ, List·Memᴰ·head, List·Memᴰ·not-nil, List·Memᴰ·eq-of-singleton}
 use Prim.Native.Nat.{ℕ}
-use Rattle.refusal.specs.Laws.Bools.{or-left, or-right}
-use Rattle.refusal.specs.Pick.{pick}
-use Rattle.refusal.specs.Laws.Pick.{pick-true}
-use Rattle.refusal.specs.declared.Offset.{Offset}
-use Rattle.refusal.specs.declared.Offset.the-variants.{None as Nowhere, At as Out}
-use Rattle.lists.specs.declared.Node.{Node}
+use Rattle.prelude.specs.Laws.Bools.{or-left, or-right}
+use Rattle.prelude.specs.Pick.{pick}
+use Rattle.prelude.specs.Laws.Pick.{pick-true}
+use Rattle.prelude.specs.declared.Offset.{Offset}
+use Rattle.prelude.specs.declared.Offset.the-variants.{None as Nowhere, At as Out}
+use Rattle.nodes.specs.declared.Node.{Node}
 use Rattle.blocks.specs.Bits.{NoSharedBit}
 use Rattle.overlap_checker.specs.declared.Entry.{Entry}
 use Rattle.overlap_checker.specs.Interval.{Covers}
-use Rattle.build_sights.specs.declared.Visit.{Visit}
-use Rattle.build_sights.specs.Items.{Item, InItem, isWritten, standing, itemOf}
+use Rattle.build_visits.specs.declared.Visit.{Visit}
+use Rattle.build_visits.specs.Items.{Item, InItem, isWritten, standing, itemOf}
 use Rattle.build_plan.specs.Placing.{isOffered, isReserve, bitsAt, offerOf}
 use Rattle.build_plan.specs.Laws.PlacingLaws.{picked-some, apart-one}
 use Rattle.build_plan.specs.PlacingLaws.{OfferedBit}

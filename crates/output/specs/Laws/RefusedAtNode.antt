@@ -9,31 +9,31 @@ use native.Mathlib.Omega.{arith}
 use borrow.Author.Tests.{ltb-true, lt-ltb, eqb-true, eq-eqb}
 use lib.Dec.{eqb}
 use lib.ListN.{length}
-use Rattle.refusal.specs.Laws.Bools.{unlike, both}
-use Rattle.refusal.specs.Pick.{pick}
-use Rattle.refusal.specs.Refusals.{numberOf, placeOf}
-use Rattle.refusal.specs.Told.{Told, gives, refuses, toldRefusal, Nothing, nothing}
-use Rattle.refusal.specs.declared.Refusal.{Refusal}
-use Rattle.refusal.specs.declared.Refusal.the-variants.{DefaultBank, PastBank, NoOutput}
-use Rattle.refusal.specs.declared.Place.{Place}
-use Rattle.refusal.specs.declared.Verdict.{Verdict}
-use Rattle.refusal.specs.declared.Verdict.the-variants.{Accepted, Refused as TurnedAway}
-use Rattle.refusal.specs.declared.Opt.{Opt}
-use Rattle.refusal.specs.declared.Opt.the-variants.{None, Some}
+use Rattle.prelude.specs.Laws.Bools.{unlike, both}
+use Rattle.prelude.specs.Pick.{pick}
+use Rattle.prelude.specs.Refusals.{numberOf, placeOf}
+use Rattle.prelude.specs.Told.{Told, gives, refuses, toldRefusal, Nothing, nothing}
+use Rattle.prelude.specs.declared.Refusal.{Refusal}
+use Rattle.prelude.specs.declared.Refusal.the-variants.{DefaultBank, PastBank, NoOutput}
+use Rattle.prelude.specs.declared.Place.{Place}
+use Rattle.prelude.specs.declared.Verdict.{Verdict}
+use Rattle.prelude.specs.declared.Verdict.the-variants.{Accepted, Refused as TurnedAway}
+use Rattle.prelude.specs.declared.Opt.{Opt}
+use Rattle.prelude.specs.declared.Opt.the-variants.{None, Some}
 use Rattle.iter.specs.Address.{outAt}
 use Rattle.iter.specs.declared.Pos.{Pos}
 use Rattle.iter.specs.declared.Moved.{Moved}
-use Rattle.lists.specs.Kinds.{sizeOf}
-use Rattle.lists.specs.Lists.{firstOf}
+use Rattle.nodes.specs.Kinds.{sizeOf}
+use Rattle.nodes.specs.Lists.{firstOf}
 use Rattle.overlap_checker.specs.declared.Entry.{Entry}
 use Rattle.overlap_checker.specs.State.{State, emptyState, answer}
 use Rattle.overlap_checker.specs.Folds.{stateAfter}
 use Rattle.overlap_checker.specs.Theorems.Answers.{three-ways, answer-overlaps, answer-full, answer-passes}
-use Rattle.build_sights.specs.declared.Visit.{Visit}
+use Rattle.build_visits.specs.declared.Visit.{Visit}
 use Rattle.output.specs.declared.Build.the-variants.{Refused}
-use Rattle.build_sights.specs.Laws.VisitLaws.{visits-next, visits-split}
-use Rattle.build_sights.specs.Items.{isWritten, itemsOf, lengthOf}
-use Rattle.build_sights.specs.Spans.{spansOf}
+use Rattle.build_visits.specs.Laws.VisitLaws.{visits-next, visits-split}
+use Rattle.build_visits.specs.Items.{isWritten, itemsOf, lengthOf}
+use Rattle.build_visits.specs.Spans.{spansOf}
 use Rattle.build_plan.specs.Placing.{isPlaced, closesDefault, usesDefault, endsPast, lacksOutput, offerOf}
 use Rattle.build_plan.specs.Placing.{answered, placing}
 use Rattle.build_plan.specs.Placing.{verdictSeen, Placed, holds, stops, placedIf, placedNext, placedFrom, placedAll}

@@ -14,7 +14,7 @@ use Rattle.bitvec.specs.Theorems.Bits.{same-bits}
 use Rattle.bitvec.specs.Written.{written}
 use Rattle.bitvec.specs.Theorems.Written.{length-written, bytes-written, bitAt-written, writtenBit-inside, written-other}
 use Rattle.blocks.specs.Bits.{NoSharedBit}
-use Rattle.build_sights.specs.Items.{Item, endOf, InItem}
+use Rattle.build_visits.specs.Items.{Item, endOf, InItem}
 
 -- ---- no shared bit, whatever the order
 

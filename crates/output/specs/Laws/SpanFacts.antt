@@ -9,16 +9,16 @@ use native.Mathlib.Omega.{arith}
 use borrow.Author.Tests.{eqb-true}
 use lib.Dec.{eqb}
 use lib.ListN.{length, getD, length-append}
-use Rattle.refusal.specs.Laws.Bools.{or-told}
-use Rattle.refusal.specs.Pick.{pick}
-use Rattle.refusal.specs.Laws.Pick.{pick-true, pick-false}
-use Rattle.refusal.specs.declared.Offset.{Offset}
-use Rattle.refusal.specs.declared.Offset.the-variants.{None as Nowhere, At as Out}
+use Rattle.prelude.specs.Laws.Bools.{or-told}
+use Rattle.prelude.specs.Pick.{pick}
+use Rattle.prelude.specs.Laws.Pick.{pick-true, pick-false}
+use Rattle.prelude.specs.declared.Offset.{Offset}
+use Rattle.prelude.specs.declared.Offset.the-variants.{None as Nowhere, At as Out}
 use Rattle.iter.specs.Address.{unitsFrom, addressOf}
 use Rattle.iter.specs.Distance.{tellable}
-use Rattle.lists.specs.Kinds.{sizeOf}
-use Rattle.lists.specs.Laws.Kinds.{written-adds, label-adds-none}
-use Rattle.lists.specs.declared.Node.{Node}
+use Rattle.nodes.specs.Kinds.{sizeOf}
+use Rattle.nodes.specs.Laws.Kinds.{written-adds, label-adds-none}
+use Rattle.nodes.specs.declared.Node.{Node}
 use Rattle.bankdef.specs.declared.Bankdef.{Bankdef}
 use Rattle.overlap_checker.specs.declared.Entry.{Entry}
 use Rattle.overlap_checker.specs.Interval.{Covers}
@@ -26,11 +26,11 @@ use Rattle.blocks.specs.Offsets.{offsetOf, wordOf, noOffset}
 use Rattle.blocks.specs.Spans.{spansOf as spansLent}
 use Rattle.blocks.specs.Spans as blocks-spans
 use Rattle.blocks.specs.Bits.{InPlaced, InSpan, Some, NoSharedBit}
-use Rattle.build_sights.specs.declared.Visit.{Visit}
-use Rattle.build_sights.specs.Visits.{visitsTo}
-use Rattle.build_sights.specs.Laws.VisitLaws.{visits-split, each-append, each-next}
-use Rattle.build_sights.specs.Items.{isWritten}
-use Rattle.build_sights.specs.Spans.{Span, isSpan, addressTold, spanAt, spanOf, spansOf, over, words, sizes}
+use Rattle.build_visits.specs.declared.Visit.{Visit}
+use Rattle.build_visits.specs.Visits.{visitsTo}
+use Rattle.build_visits.specs.Laws.VisitLaws.{visits-split, each-append, each-next}
+use Rattle.build_visits.specs.Items.{isWritten}
+use Rattle.build_visits.specs.Spans.{Span, isSpan, addressTold, spanAt, spanOf, spansOf, over, words, sizes}
 use Rattle.build_plan.specs.Placing.{isOffered, bitsAt, offerOf}
 use Rattle.build_plan.specs.Laws.PlacingLaws.{picked-some}
 use Rattle.build_plan.specs.PlacingLaws.{OfferedBit}
@@ -43,7 +43,7 @@ module _ (c : Call) where
   more false l x = ap length (mathlib.Core.List.append-nil l)
 
   pub spans-counted : (n : ℕ) → length (spansOf (visitsBefore c n)) ≡ spansAmong c n
-  unfolding spansAmong visitsTo Rattle.build_sights.specs.Visits.each
+  unfolding spansAmong visitsTo Rattle.build_visits.specs.Visits.each
   spans-counted zero = refl
   spans-counted (suc i) =
       ap length (each-next (programIn c) (rowIn c) spanOf i)

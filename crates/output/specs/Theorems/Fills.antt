@@ -10,9 +10,9 @@ use Rattle.bankdef.specs.FillBits.{onesIn}
 use Rattle.bitvec.specs.Bits.{ofBits}
 use Rattle.bitvec.specs.Lists.{listOf}
 use Rattle.bitvec.specs.Numeral.{numeral}
-use Rattle.lists.specs.Lists.{lists}
-use Rattle.build_sights.specs.Visits.{visitsTo, each}
-use Rattle.build_sights.specs.Items.{imageOf}
+use Rattle.nodes.specs.Lists.{lists}
+use Rattle.build_visits.specs.Visits.{visitsTo, each}
+use Rattle.build_visits.specs.Items.{imageOf}
 use Rattle.build_write.specs.Blank.{blankOf}
 use Rattle.output.specs.Output.{Input, fillOf, Lent, roomOf, visitsOf, leftBy, Builds}
 use Rattle.output.specs.Calls.{Accepted}

@@ -6,17 +6,17 @@ use Prim.Native.Nat.{ℕ, _≤_, _<_}
 use borrow.Author.Tests.{lt-ltb, le-ltb}
 use lib.Dec.{ltb}
 use lib.ListN.{length, getD, replicate}
-use Rattle.refusal.specs.Pick.{pick}
-use Rattle.refusal.specs.Laws.Pick.{pick-true, pick-false}
+use Rattle.prelude.specs.Pick.{pick}
+use Rattle.prelude.specs.Laws.Pick.{pick-true, pick-false}
 use Rattle.bankdef.specs.Check.{noBank, banksOf}
 use Rattle.bankdef.specs.FillBits.{fillBitAt, FillsBit}
 use Rattle.bankdef.specs.Theorems.FillBits.{none-zero, takes-fill-bit}
 use Rattle.bankdef.specs.Numbers.{fillBit}
 use Rattle.bankdef.specs.declared.Bankdef.{Bankdef}
 use Rattle.bitvec.specs.Bits.{bitAt}
-use Rattle.build_sights.specs.Items.{Item, InItem}
+use Rattle.build_visits.specs.Items.{Item, InItem}
 use Rattle.build_write.specs.Laws.Blank.{blank-bit, blank-zeros}
-use Rattle.build_sights.specs.Laws.ItemLaws.{zeros-bit}
+use Rattle.build_visits.specs.Laws.ItemLaws.{zeros-bit}
 use Rattle.output.specs.Theorems.ItemBits.{rest-blank, length-fits}
 use Rattle.output.specs.Output.{filled}
 use Rattle.output.specs.Calls.{Accepted, itemsIn, visitsIn, valuesIn}

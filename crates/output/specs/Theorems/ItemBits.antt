@@ -6,19 +6,19 @@ use mathlib.Core.Logic.{_⊎_, inl, inr, ⊎-elim}
 use Prim.Native.Nat.{ℕ, _+_, _*_, _≤_, _<_}
 use native.Mathlib.Nat.{le-trans}
 use lib.ListN.{length}
-use Rattle.refusal.specs.declared.Opt.{Opt}
-use Rattle.refusal.specs.declared.Opt.the-variants.{None, Some}
+use Rattle.prelude.specs.declared.Opt.{Opt}
+use Rattle.prelude.specs.declared.Opt.the-variants.{None, Some}
 use Rattle.bankdef.specs.Check.{banksOf}
 use Rattle.iter.specs.Address.{outAt}
-use Rattle.lists.specs.declared.Node.{Node}
+use Rattle.nodes.specs.declared.Node.{Node}
 use Rattle.bitvec.specs.Bits.{bitAt}
 use Rattle.blocks.specs.Bits.{NoSharedBit}
-use Rattle.build_sights.specs.declared.Visit.{Visit}
-use Rattle.build_sights.specs.Visits.{positionOf}
-use Rattle.build_sights.specs.Laws.VisitLaws.{member-visit, each-from}
-use Rattle.build_sights.specs.Items.{Item, endOf, InItem, isWritten, standing, itemOf, imageOf}
-use Rattle.build_sights.specs.Laws.ItemLaws.{fill-within, end-within, bit-of-none, bit-of-item}
-use Rattle.build_sights.specs.Theorems.ItemLaws.{length-is-one}
+use Rattle.build_visits.specs.declared.Visit.{Visit}
+use Rattle.build_visits.specs.Visits.{positionOf}
+use Rattle.build_visits.specs.Laws.VisitLaws.{member-visit, each-from}
+use Rattle.build_visits.specs.Items.{Item, endOf, InItem, isWritten, standing, itemOf, imageOf}
+use Rattle.build_visits.specs.Laws.ItemLaws.{fill-within, end-within, bit-of-none, bit-of-item}
+use Rattle.build_visits.specs.Theorems.ItemLaws.{length-is-one}
 use Rattle.build_write.specs.Laws.Blank.{blank-length}
 use Rattle.build_plan.specs.Laws.PlacingLaws.{picked-some, holds-apart, each-apart}
 use Rattle.build_plan.specs.PlacingLaws.{OfferedBit}

@@ -6,18 +6,18 @@ use Prim.Native.Nat.{ℕ, zero, suc, _*_, _≤_}
 use native.Mathlib.Omega.{arith}
 use lib.Dec.{ltb}
 use lib.ListN.{length}
-use Rattle.refusal.specs.Laws.Bools.{unlike}
-use Rattle.refusal.specs.Pick.{pick}
-use Rattle.refusal.specs.declared.Refusal.{Refusal}
-use Rattle.refusal.specs.declared.Refusal.the-variants.{TooShort}
-use Rattle.refusal.specs.declared.Verdict.{Verdict}
-use Rattle.refusal.specs.declared.Verdict.the-variants.{Accepted, Refused as TurnedAway}
+use Rattle.prelude.specs.Laws.Bools.{unlike}
+use Rattle.prelude.specs.Pick.{pick}
+use Rattle.prelude.specs.declared.Refusal.{Refusal}
+use Rattle.prelude.specs.declared.Refusal.the-variants.{TooShort}
+use Rattle.prelude.specs.declared.Verdict.{Verdict}
+use Rattle.prelude.specs.declared.Verdict.the-variants.{Accepted, Refused as TurnedAway}
 use Rattle.resolver.specs.declared.Settled.the-variants.{At}
 use Rattle.overlap_checker.specs.State.{State, emptyState}
 use Rattle.output.specs.declared.Build.the-variants.{Done, Refused}
-use Rattle.build_sights.specs.Laws.VisitLaws.{visits-none, visits-next}
-use Rattle.build_sights.specs.Items.{itemsOf, lengthOf}
-use Rattle.build_sights.specs.Spans.{spansOf}
+use Rattle.build_visits.specs.Laws.VisitLaws.{visits-none, visits-next}
+use Rattle.build_visits.specs.Items.{itemsOf, lengthOf}
+use Rattle.build_visits.specs.Spans.{spansOf}
 use Rattle.build_plan.specs.Placing.{verdictOn}
 use Rattle.build_plan.specs.Placing.{Placed, holds, stops, placedIf, placedNext, placedFrom, placedAll}
 use Rattle.build_plan.specs.Laws.PlacingLaws.{placed-last}

@@ -4,22 +4,22 @@ use mathlib.Core.Path.{_≡_, refl, sym, ap, subst, _∙_}
 use mathlib.Core.Bool.{Bool}
 use mathlib.Core.List.{List·Memᴰ, List·Memᴰ·not-nil, List·Memᴰ·eq-of-singleton}
 use native.Mathlib.Omega.{arith}
-use Rattle.refusal.specs.Limits.{maxPosition}
-use Rattle.refusal.specs.declared.Opt.{Opt}
-use Rattle.refusal.specs.declared.Opt.the-variants.{None, Some}
+use Rattle.prelude.specs.Limits.{maxPosition}
+use Rattle.prelude.specs.declared.Opt.{Opt}
+use Rattle.prelude.specs.declared.Opt.the-variants.{None, Some}
 use Rattle.iter.specs.Address.{outAt}
 use Rattle.iter.specs.declared.Moved.{Moved}
 use Rattle.iter.specs.declared.Moved.the-variants.{To}
 use Rattle.iter.specs.declared.Pos.{Pos}
-use Rattle.lists.specs.Lists.{Row}
+use Rattle.nodes.specs.Lists.{Row}
 use Rattle.resolver.specs.Once.{Program, node, bankOf, walkTo}
 use Rattle.overlap_checker.specs.Folds.{AllWithin}
 use Rattle.overlap_checker.specs.Interval.{Within}
 use Rattle.overlap_checker.specs.State.{State, emptyState}
 use Rattle.overlap_checker.specs.declared.Entry.{Entry}
-use Rattle.build_sights.specs.Visits.{seenPos, positionOf, visitAt, visitsTo}
-use Rattle.build_sights.specs.Laws.VisitLaws.{each-from, member-visit}
-use Rattle.build_sights.specs.declared.Visit.{Visit}
+use Rattle.build_visits.specs.Visits.{seenPos, positionOf, visitAt, visitsTo}
+use Rattle.build_visits.specs.Laws.VisitLaws.{each-from, member-visit}
+use Rattle.build_visits.specs.declared.Visit.{Visit}
 use Rattle.build_plan.specs.Theorems.Kinds.{offered-exactly}
 use Rattle.build_plan.specs.Placing.{isOffered, bitsAt, offerOf, offersOf, holds, placedAll}
 use Rattle.build_plan.specs.Laws.PlacingLaws.{picked-some, each-accepted, seen-placing}

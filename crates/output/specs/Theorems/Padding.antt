@@ -5,8 +5,8 @@ use Prim.Native.Nat.{ℕ, _+_, _*_, _<_}
 use native.Mathlib.Omega.{arith}
 use borrow.Author.Tests.{le-ltb}
 use lib.ListN.{getD}
-use Rattle.refusal.specs.Limits.{maxBanks}
-use Rattle.refusal.specs.Laws.Pick.{pick-false}
+use Rattle.prelude.specs.Limits.{maxBanks}
+use Rattle.prelude.specs.Laws.Pick.{pick-false}
 use Rattle.bankdef.specs.Check.{firstPair}
 use Rattle.bankdef.specs.Fill.{fillFrom}
 use Rattle.bankdef.specs.Search.{firstWhere}
@@ -16,16 +16,16 @@ use Rattle.iter.specs.Step.{origin, noLost, startOf, seenOf, movedOn, advancedO
 use Rattle.iter.specs.declared.Lost.{Lost}
 use Rattle.resolver.specs.KnownInPass.{bankAt}
 use Rattle.resolver.specs.Layout.{layoutOf}
-use Rattle.lists.specs.Lists.{lists, nodesTo, anyRowFault, listsOf}
+use Rattle.nodes.specs.Lists.{lists, nodesTo, anyRowFault, listsOf}
 use Rattle.resolver.specs.Once.{walkTo, passTo}
 use Rattle.resolver.specs.Passes.{first, settledBy}
 use Rattle.resolver.specs.Padding.{sumIn, paddingOf}
 use Rattle.resolver.specs.Laws.Padding.{sizesTo, Walks}
 use Rattle.resolver.specs.Theorems.Padding.{ends-at-sizes-and-padding}
-use Rattle.build_sights.specs.Visits.{visitsTo, each}
-use Rattle.build_sights.specs.Items.{lengthOf}
+use Rattle.build_visits.specs.Visits.{visitsTo, each}
+use Rattle.build_visits.specs.Items.{lengthOf}
 use Rattle.build_plan.specs.Placing.{checked, placedFrom}
-use Rattle.build_sights.specs.Laws.VisitLaws.{visit-member}
+use Rattle.build_visits.specs.Laws.VisitLaws.{visit-member}
 use Rattle.build_plan.specs.Laws.PlacingLaws.{each-accepted, seen-placing}
 use Rattle.output.specs.Output.{Lent, Room, roomOf, roomFor, paddingBy, buildOf, Builds}
 use Rattle.build_plan.specs.Plan.{paddingsOf}

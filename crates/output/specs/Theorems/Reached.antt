@@ -9,7 +9,7 @@ use Rattle.resolver.specs.Passes.{rowOfPass}
 use Rattle.resolver.specs.declared.Settled.the-variants.{At}
 use Rattle.overlap_checker.specs.State.{State}
 use Rattle.build_plan.specs.Placing.{holds, placedAll}
-use Rattle.build_sights.specs.Visits.{visitAt}
+use Rattle.build_visits.specs.Visits.{visitAt}
 use Rattle.output.specs.Output.{settledOf}
 use Rattle.output.specs.Calls.{Call, nodesIn, closedIn, programIn, visitIn, visitsBefore}
 use Rattle.output.specs.Laws.Calls.{passes-are}

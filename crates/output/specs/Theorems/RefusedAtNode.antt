@@ -6,17 +6,17 @@ use mathlib.Core.Logic.{_⊎_, inl, inr, ⊎-elim, _↔_}
 use Prim.Native.Nat.{ℕ, _+_, _≤_, _<_}
 use native.Mathlib.Omega.{arith}
 use lib.ListN.{length}
-use Rattle.refusal.specs.Laws.Bools.{both}
-use Rattle.refusal.specs.Limits.{maxStored}
-use Rattle.refusal.specs.Refusals.{numberOf, placeOf}
-use Rattle.refusal.specs.Told.{refuses, toldVerdict}
-use Rattle.refusal.specs.declared.Refusal.{Refusal}
-use Rattle.refusal.specs.declared.Refusal.the-variants.{DefaultBank, PastBank, NoOutput}
-use Rattle.refusal.specs.declared.Place.{Place}
-use Rattle.refusal.specs.declared.Place.the-variants.{One, Two}
-use Rattle.refusal.specs.declared.Verdict.{Verdict}
-use Rattle.refusal.specs.declared.Verdict.the-variants.{Accepted, Refused as TurnedAway}
-use Rattle.lists.specs.Kinds.{sizeOf}
+use Rattle.prelude.specs.Laws.Bools.{both}
+use Rattle.prelude.specs.Limits.{maxStored}
+use Rattle.prelude.specs.Refusals.{numberOf, placeOf}
+use Rattle.prelude.specs.Told.{refuses, toldVerdict}
+use Rattle.prelude.specs.declared.Refusal.{Refusal}
+use Rattle.prelude.specs.declared.Refusal.the-variants.{DefaultBank, PastBank, NoOutput}
+use Rattle.prelude.specs.declared.Place.{Place}
+use Rattle.prelude.specs.declared.Place.the-variants.{One, Two}
+use Rattle.prelude.specs.declared.Verdict.{Verdict}
+use Rattle.prelude.specs.declared.Verdict.the-variants.{Accepted, Refused as TurnedAway}
+use Rattle.nodes.specs.Kinds.{sizeOf}
 use Rattle.overlap_checker.specs.declared.Entry.{Entry}
 use Rattle.overlap_checker.specs.Interval.{interval, StrictlyInside}
 use Rattle.overlap_checker.specs.State.{State, emptyState, answer}
@@ -27,9 +27,9 @@ use Rattle.overlap_checker.specs.Naming.{Named}
 use Rattle.overlap_checker.specs.Laws.WhatIsStored.{stored-accepted, accepted-stored, mark-accepted, accepted-mark}
 use Rattle.overlap_checker.specs.Theorems.Demand3.{overlap-offered, full-offered, full-place, empty-offered, mark-full-offered, overlap-names}
 use Rattle.overlap_checker.specs.Theorems.Demand3.{stored-is-accepted, marks-are-accepted, stored-few, marks-few}
-use Rattle.build_sights.specs.declared.Visit.{Visit}
-use Rattle.build_sights.specs.Visits.{positionOf}
-use Rattle.build_sights.specs.Items.{isWritten}
+use Rattle.build_visits.specs.declared.Visit.{Visit}
+use Rattle.build_visits.specs.Visits.{positionOf}
+use Rattle.build_visits.specs.Items.{isWritten}
 use Rattle.build_plan.specs.Theorems.Kinds.{written-exactly, offered-exactly, placed-exactly}
 use Rattle.build_plan.specs.Placing.{isPlaced, isOffered, usesDefault, endsPast, lacksOutput, offerOf}
 use Rattle.build_plan.specs.Placing.{answered}

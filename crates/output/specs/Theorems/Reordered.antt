@@ -9,7 +9,7 @@ use Rattle.bankdef.specs.Fill.{fillBy}
 use Rattle.bankdef.specs.declared.Bankdefs.{Bankdefs}
 use Rattle.bitvec.specs.Theorems.Written.{accepted-written}
 use Rattle.blocks.specs.Bits.{NoSharedBit}
-use Rattle.build_sights.specs.Items.{Item, endOf, InItem, lengthOf, imageOf}
+use Rattle.build_visits.specs.Items.{Item, endOf, InItem, lengthOf, imageOf}
 use Rattle.build_write.specs.Blank.{blankOf}
 use Rattle.output.specs.Laws.ReorderLaws.{put, put-swap, max-swap, apart-reordered}
 use Rattle.output.specs.Output.{Lent}

@@ -7,13 +7,13 @@ use native.Mathlib.Omega.{arith}
 use borrow.Author.Tests.{ltb-false, le-ltb}
 use lib.Dec.{ltb}
 use lib.ListN.{length}
-use Rattle.refusal.specs.Laws.Bools.{unlike}
-use Rattle.refusal.specs.Pick.{pick}
-use Rattle.refusal.specs.Laws.Pick.{pick-false}
-use Rattle.refusal.specs.Told.{Told, gives, refuses}
-use Rattle.refusal.specs.declared.Place.{Place}
-use Rattle.refusal.specs.declared.Place.the-variants.{One}
-use Rattle.build_sights.specs.Items.{lengthOf}
+use Rattle.prelude.specs.Laws.Bools.{unlike}
+use Rattle.prelude.specs.Pick.{pick}
+use Rattle.prelude.specs.Laws.Pick.{pick-false}
+use Rattle.prelude.specs.Told.{Told, gives, refuses}
+use Rattle.prelude.specs.declared.Place.{Place}
+use Rattle.prelude.specs.declared.Place.the-variants.{One}
+use Rattle.build_visits.specs.Items.{lengthOf}
 use Rattle.build_plan.specs.Placing.{placedAll}
 use Rattle.output.specs.Output.{roomOf, fillOf, Figures, toldBuild, roomTold, placedTold, settledTold, visitsOf}
 use Rattle.output.specs.Calls.{Call, closedIn}
@@ -27,8 +27,8 @@ module _ (c : Call) (all : AllPlaced c) where
       ∙ ap (settledTold (c .given) (roomOf (c .old))) (all .settled)
       ∙ ap
       (λ (n : ℕ). placedTold (roomOf (c .old)) (all .k)
-      (lengthOf (fillOf (c .given)) (Rattle.build_sights.specs.Items.itemsOf (visitsOf (c .given) n)))
-      (length (Rattle.build_sights.specs.Spans.spansOf (visitsOf (c .given) n)))
+      (lengthOf (fillOf (c .given)) (Rattle.build_visits.specs.Items.itemsOf (visitsOf (c .given) n)))
+      (length (Rattle.build_visits.specs.Spans.spansOf (visitsOf (c .given) n)))
       (placedAll (closedIn c) (visitsOf (c .given) n)))
       (sym (passes-are c))
       ∙ ap (placedTold (roomOf (c .old)) (all .k) (lengthIn c) (spanCount c)) (all .placed)

@@ -8,12 +8,12 @@ use lib.Dec.{eqb}
 use lib.IntN.{ℤ, pos}
 use lib.ListN.{length, getD, take, drop, length-map}
 use lib.Seq.{take-at, drop-at}
-use Rattle.refusal.specs.Laws.Bools.{or-else}
-use Rattle.refusal.specs.Laws.Pick.{pick-true, pick-false}
+use Rattle.prelude.specs.Laws.Bools.{or-else}
+use Rattle.prelude.specs.Laws.Pick.{pick-true, pick-false}
 use Rattle.iter.specs.Address.{unitsFrom, outputPosition}
 use Rattle.iter.specs.Distance.{tellable}
-use Rattle.lists.specs.Kinds.{isItem, sizeOf}
-use Rattle.lists.specs.Laws.Kinds.{written-adds, label-adds-none}
+use Rattle.nodes.specs.Kinds.{isItem, sizeOf}
+use Rattle.nodes.specs.Laws.Kinds.{written-adds, label-adds-none}
 use Rattle.blocks.specs.Offsets.{wordOf}
 use Rattle.blocks.specs.Spans.{spansOf as spansLent}
 use Rattle.blocks.specs.Spans as blocks-spans
@@ -22,8 +22,8 @@ use Rattle.blocks.specs.Theorems.Bits.{blocks-apart}
 use Rattle.blocks.specs.Laws.Row.{InARow}
 use Rattle.blocks.specs.Theorems.Row.{blocks-in-a-row}
 use Rattle.blocks.specs.Walk.{blocksOf}
-use Rattle.build_sights.specs.Visits.{positionOf}
-use Rattle.build_sights.specs.Spans.{Span, isSpan, spanAt, spanOf, over, addresses, words, sizes}
+use Rattle.build_visits.specs.Visits.{positionOf}
+use Rattle.build_visits.specs.Spans.{Span, isSpan, spanAt, spanOf, over, addresses, words, sizes}
 use Rattle.build_plan.specs.Laws.PlacingLaws.{holds-apart, apart-one, each-apart}
 use Rattle.output.specs.Output.{Lent}
 use Rattle.output.specs.Calls.{Accepted, nodesIn, visitIn, visitsIn, spansIn, closedIn}

@@ -1,6 +1,6 @@
 -- The build's contract leaves one outcome: two that meet it for one input are equal, the answer and everything lent afterwards.
 use mathlib.Core.Path.{_≡_, sym, subst}
-use Rattle.refusal.specs.Laws.Pick.{determined}
+use Rattle.prelude.specs.Laws.Pick.{determined}
 use Rattle.output.specs.Output.{Input, Lent, Builds}
 use Rattle.output.specs.declared.Output.{Output}
 

@@ -11,7 +11,7 @@ use borrow.Author.Tests.{ltb-true, ltb-false}
 use lib.Dec.{ltb}
 use lib.ListN.{length, drop, drop-of-length-le}
 use lib.Seq.{drop-cons}
-use Rattle.refusal.specs.Laws.Bools.{neither}
+use Rattle.prelude.specs.Laws.Bools.{neither}
 use Rattle.overlap_checker.specs.declared.Entry.{Entry}
 use Rattle.overlap_checker.specs.Interval.{interval, end}
 use Rattle.overlap_checker.specs.Stored.{atFault, firstFault}

@@ -6,7 +6,7 @@ use mathlib.Core.List.{List, [], _∷_}
 use Prim.Native.Nat.{_≤_, _<_}
 use native.Mathlib.Omega.{arith}
 use lib.ListN.{length}
-use Rattle.refusal.specs.Limits.{maxStored}
+use Rattle.prelude.specs.Limits.{maxStored}
 use Rattle.overlap_checker.specs.declared.Entry.{Entry}
 use Rattle.overlap_checker.specs.Offers.{clashesAny}
 use Rattle.overlap_checker.specs.State.{State, after}

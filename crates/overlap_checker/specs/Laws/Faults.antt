@@ -6,8 +6,8 @@ use mathlib.Core.List.{List, [], _∷_}
 use Prim.Native.Nat.{ℕ, suc, _≤_, _<_}
 use native.Mathlib.Omega.{arith}
 use lib.ListN.{length, take}
-use Rattle.refusal.specs.Told.{Told, gives, refuses, Nothing, toldVerdict}
-use Rattle.refusal.specs.declared.Verdict.{Verdict}
+use Rattle.prelude.specs.Told.{Told, gives, refuses, Nothing, toldVerdict}
+use Rattle.prelude.specs.declared.Verdict.{Verdict}
 use Rattle.overlap_checker.specs.declared.Entry.{Entry}
 use Rattle.overlap_checker.specs.Entries.{entryAt}
 use Rattle.overlap_checker.specs.Interval.{end, ShareBit}

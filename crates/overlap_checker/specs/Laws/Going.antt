@@ -6,8 +6,8 @@ use mathlib.Core.List.{List, [], _∷_, List·Memᴰ·head, List·Memᴰ·tail}
 use Prim.Native.Nat.{ℕ, _+_, _≤_}
 use native.Mathlib.Omega.{arith}
 use lib.ListN.{length, take, length-append, length-take, length-drop}
-use Rattle.refusal.specs.Laws.Bools.{neither}
-use Rattle.refusal.specs.Limits.{maxStored}
+use Rattle.prelude.specs.Laws.Bools.{neither}
+use Rattle.prelude.specs.Limits.{maxStored}
 use Rattle.overlap_checker.specs.declared.Entry.{Entry}
 use Rattle.overlap_checker.specs.Interval.{interval, end, Within}
 use Rattle.overlap_checker.specs.Offers.{placeFor, clashesAny}

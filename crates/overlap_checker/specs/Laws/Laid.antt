@@ -6,7 +6,7 @@ use native.Mathlib.Nat.{le-of-suc-le-suc, not-suc-le-zero, suc-inj}
 use native.Mathlib.Omega.{arith}
 use lib.ListN.{length, take, drop, getD, length-map, length-append, length-drop, take-append-drop}
 use lib.Seq.{length-take-le, getD-take, take-at}
-use Rattle.refusal.specs.Limits.{maxStored}
+use Rattle.prelude.specs.Limits.{maxStored}
 use Rattle.overlap_checker.specs.declared.Entry.{Entry}
 use Rattle.overlap_checker.specs.Interval.{interval}
 use Rattle.overlap_checker.specs.Entries.{entryAt}

@@ -10,8 +10,8 @@ use native.Mathlib.Omega.{arith}
 use borrow.Author.Tests.{ltb-false, le-ltb}
 use lib.ListN.{length, drop, getD, drop-of-length-le}
 use lib.Seq.{drop-cons}
-use Rattle.refusal.specs.Laws.Bools.{neither}
-use Rattle.refusal.specs.Limits.{maxOffer}
+use Rattle.prelude.specs.Laws.Bools.{neither}
+use Rattle.prelude.specs.Limits.{maxOffer}
 use Rattle.overlap_checker.specs.declared.Entry.{Entry}
 use Rattle.overlap_checker.specs.Interval.{interval, end, StrictlyInside, strictlyInside, clashes}
 use Rattle.overlap_checker.specs.Offers.{placeFor, clashesAny}

@@ -2,8 +2,8 @@
 use mathlib.Core.Path.{_≡_, sym, ap, ap₂, _∙_}
 use mathlib.Core.List.{List}
 use Prim.Native.Nat.{ℕ}
-use Rattle.refusal.specs.Laws.Pick.{determined}
-use Rattle.refusal.specs.declared.Verdict.{Verdict}
+use Rattle.prelude.specs.Laws.Pick.{determined}
+use Rattle.prelude.specs.declared.Verdict.{Verdict}
 use Rattle.overlap_checker.specs.declared.Entry.{Entry}
 use Rattle.overlap_checker.specs.declared.Offered.{Offered}
 use Rattle.overlap_checker.specs.Lent.{Lent, lent, stateIn, laidInto, leaving, Offers, Calls}

@@ -8,7 +8,7 @@ use native.Mathlib.Nat.{eq-zero-or-pos, suc-inj}
 use native.Mathlib.Omega.{arith}
 use borrow.Author.Tests.{ltb-false, le-ltb, eqb-false, ne-eqb}
 use lib.ListN.{length}
-use Rattle.refusal.specs.Laws.Bools.{neither}
+use Rattle.prelude.specs.Laws.Bools.{neither}
 use Rattle.overlap_checker.specs.declared.Entry.{Entry}
 use Rattle.overlap_checker.specs.Interval.{end, Within, pastLimits}
 use Rattle.overlap_checker.specs.Stored.{atFault, firstFault}

@@ -1,9 +1,9 @@
 -- What a call on any store tries first, 15 and 4: a law for each way that it goes.
 use mathlib.Core.Path.{_≡_, ap, _∙_}
 use Prim.Native.Nat.{ℕ}
-use Rattle.refusal.specs.Told.{Told, refuses, Nothing, toldVerdict}
-use Rattle.refusal.specs.declared.Place.the-variants.{One}
-use Rattle.refusal.specs.declared.Verdict.{Verdict}
+use Rattle.prelude.specs.Told.{Told, refuses, Nothing, toldVerdict}
+use Rattle.prelude.specs.declared.Place.the-variants.{One}
+use Rattle.prelude.specs.declared.Verdict.{Verdict}
 use Rattle.overlap_checker.specs.declared.Entry.{Entry}
 use Rattle.overlap_checker.specs.Interval.{Within}
 use Rattle.overlap_checker.specs.State.{answer}

@@ -8,9 +8,9 @@ use mathlib.Core.List.{List, List·Permᴰ}
 use Prim.Native.Nat.{ℕ, _≤_, _<_}
 use native.Mathlib.Omega.{arith}
 use lib.ListN.{length}
-use Rattle.refusal.specs.Limits.{maxStored}
-use Rattle.refusal.specs.Told.{refuses, toldVerdict}
-use Rattle.refusal.specs.declared.Place.the-variants.{One, Two}
+use Rattle.prelude.specs.Limits.{maxStored}
+use Rattle.prelude.specs.Told.{refuses, toldVerdict}
+use Rattle.prelude.specs.declared.Place.the-variants.{One, Two}
 use Rattle.overlap_checker.specs.declared.Entry.{Entry}
 use Rattle.overlap_checker.specs.Interval.{StrictlyInside}
 use Rattle.overlap_checker.specs.Stored.{Proper}

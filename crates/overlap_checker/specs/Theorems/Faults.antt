@@ -6,8 +6,8 @@ use mathlib.Core.Logic.{_↔_}
 use mathlib.Core.List.{List}
 use Prim.Native.Nat.{suc, _≤_, _<_}
 use lib.ListN.{length, take}
-use Rattle.refusal.specs.Limits.{maxStored}
-use Rattle.refusal.specs.declared.Verdict.{Verdict}
+use Rattle.prelude.specs.Limits.{maxStored}
+use Rattle.prelude.specs.declared.Verdict.{Verdict}
 use Rattle.overlap_checker.specs.declared.Entry.{Entry}
 use Rattle.overlap_checker.specs.Stored.{firstFault, Proper}
 use Rattle.overlap_checker.specs.Marks.{ProperMarks}

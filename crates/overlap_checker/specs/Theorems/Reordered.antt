@@ -1,7 +1,7 @@
 -- Theorems about what Reordered defines.
 use mathlib.Core.Path.{_≡_, sym, ap, _∙_, subst}
 use mathlib.Core.List.{List, List·Permᴰ}
-use Rattle.refusal.specs.declared.Verdict.{Verdict}
+use Rattle.prelude.specs.declared.Verdict.{Verdict}
 use Rattle.overlap_checker.specs.declared.Entry.{Entry}
 use Rattle.overlap_checker.specs.State.{State, emptyState}
 use Rattle.overlap_checker.specs.Lent.{Lent, held, heldMarks, stateIn, laidInto}

@@ -10,7 +10,7 @@ use Rattle.overlay.proofs.same_stretch.Statement.{statement}
 use Rattle.overlay.proofs.same_stretch.Tie as tie
 use Rattle.overlay.proofs.same_stretch.Reads as reads
 use Rattle.overlay.proofs.same_stretch.Lts as lts
-use Rattle.refusal.proofs.both.Reads as both-reads
+use Rattle.prelude.proofs.both.Reads as both-reads
 
 abbrev Inv-loop : tie.InvT-loop
 Inv-loop overlay released at ok₀ j₀ ok j = (j ≤ 64) × (ok ≡ true → AgreeOn overlay released at j)

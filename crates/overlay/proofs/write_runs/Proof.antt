@@ -1,7 +1,7 @@
 -- `write_runs` meets its contract: the first walk counts the runs, and the second is made only where there is room for all.
 use borrow.Author.Needs.{needs}
 use mathlib.Core.List.{List}
-use Rattle.refusal.specs.declared.Refusal.the-variants.{TooShort}
+use Rattle.prelude.specs.declared.Refusal.the-variants.{TooShort}
 use Rattle.blocks.specs.declared.Block.{Block}
 use Rattle.blocks.specs.Laws.Room.{short-first, short-second, enough}
 use Rattle.overlay.specs.declared.Listed.the-variants.{Runs, Refused}

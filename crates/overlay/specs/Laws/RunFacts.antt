@@ -7,7 +7,7 @@ use Prim.Native.Nat.{ℕ, zero, suc, _+_, _≤_, _<_}
 use native.Mathlib.Decide.{decLt}
 use native.Mathlib.Omega.{arith}
 use lib.ListN.{length, getD}
-use Rattle.refusal.specs.Pick.{pick}
+use Rattle.prelude.specs.Pick.{pick}
 use Rattle.blocks.specs.declared.Block.{Block}
 use Rattle.blocks.specs.Walk.{block}
 use Rattle.overlay.specs.Laws.CoverFacts.{either, clash}

@@ -1,7 +1,7 @@
 -- `put_done` meets its contract: the blocks that are found; the call is never refused.
 use mathlib.Core.Path.{_≡_}
 use Prim.Native.Nat.{ℕ}
-use Rattle.refusal.specs.declared.Refusal.{Refusal}
+use Rattle.prelude.specs.declared.Refusal.{Refusal}
 use Rattle.bitvec.specs.HexDigits.{hexOf}
 use Rattle.blocks.specs.declared.Blocks.the-variants.{Found, Refused}
 use Rattle.print_text.specs.Lines.{layoutText}

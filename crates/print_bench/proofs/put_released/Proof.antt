@@ -5,7 +5,7 @@ use Prim.Native.Nat.{ℕ}
 use native.Mathlib.Omega.{arith}
 use Rattle.blocks.specs.declared.Blocks.{Blocks}
 use Rattle.blocks.specs.declared.Blocks.the-variants.{Found, Refused}
-use Rattle.refusal.specs.declared.Refusal.{Refusal}
+use Rattle.prelude.specs.declared.Refusal.{Refusal}
 use Rattle.print_bench.specs.Images.{given, unread, fileOf}
 use Rattle.print_bench.specs.Steps.{Loads}
 use Rattle.print_bench.proofs.Laws.{copied, stands-as}

@@ -5,7 +5,7 @@ use mathlib.Core.List.{List, [], _∷_, List·Memᴰ·head, List·Memᴰ·tail}
 use Prim.Native.Nat.{ℕ, _+_}
 use borrow.Author.Tests.{leb-true, ltb-true}
 use lib.Dec.{leb, ltb}
-use Rattle.refusal.specs.Laws.Bools.{either, clash, both}
+use Rattle.prelude.specs.Laws.Bools.{either, clash, both}
 use Rattle.bitvec.specs.Within.{covers}
 use Rattle.blocks.specs.Bits.{InBlock, Some}
 use Rattle.blocks.specs.Outcome.{origins, sizes}

@@ -6,20 +6,20 @@ use native.Mathlib.Omega.{arith}
 use borrow.Author.Tests.{le-leb, lt-leb}
 use lib.ListN.{length, take, drop, length-map, length-append, length-drop}
 use lib.Seq.{length-take-le}
-use Rattle.refusal.specs.Laws.Bools.{unlike}
-use Rattle.refusal.specs.Laws.Pick.{pick-true, pick-false}
-use Rattle.refusal.specs.Pick.{pick}
-use Rattle.refusal.specs.declared.Refusal.{Refusal}
-use Rattle.refusal.specs.declared.Refusal.the-variants.{Malformed}
+use Rattle.prelude.specs.Laws.Bools.{unlike}
+use Rattle.prelude.specs.Laws.Pick.{pick-true, pick-false}
+use Rattle.prelude.specs.Pick.{pick}
+use Rattle.prelude.specs.declared.Refusal.{Refusal}
+use Rattle.prelude.specs.declared.Refusal.the-variants.{Malformed}
 use Rattle.blocks.specs.Outcome.{origins, sizes, over}
 use Rattle.blocks.specs.declared.Block.{Block}
 use Rattle.blocks.specs.declared.Blocks.{Blocks}
 use Rattle.blocks.specs.declared.Blocks.the-variants.{Found, Refused}
 use Rattle.print_text.specs.Ascii.{ascii}
 use Rattle.print_text.specs.Lines.{line}
-use Rattle.record_fault.specs.Outcome.{faultOf}
-use Rattle.record_fault.specs.Reading.{Read, sound, faulty, readText}
-use Rattle.record_fault.specs.declared.Fault.the-variants.{Good, At}
+use Rattle.record_scan.specs.Outcome.{faultOf}
+use Rattle.record_scan.specs.Reading.{Read, sound, faulty, readText}
+use Rattle.record_scan.specs.declared.Fault.the-variants.{Good, At}
 use Rattle.record_read.specs.Given.{filled}
 use Rattle.record_read.specs.Outcome.{Lent, lent, answerOf, taken, Reads}
 use Rattle.record_read.specs.Runs.{reach, blocksGiven}

@@ -4,15 +4,15 @@ use mathlib.Core.List.{List, [], _∷_, _++_}
 use Prim.Native.Nat.{ℕ, _+_, _-_, _≤_}
 use borrow.Author.Tests.{le-leb, le-ltb, ne-eqb}
 use lib.ListN.{length, take, drop}
-use Rattle.refusal.specs.Laws.Pick.{pick-true, pick-false}
-use Rattle.refusal.specs.declared.Refusal.the-variants.{Malformed}
+use Rattle.prelude.specs.Laws.Pick.{pick-true, pick-false}
+use Rattle.prelude.specs.declared.Refusal.the-variants.{Malformed}
 use Rattle.blocks.specs.Outcome.{origins, sizes}
 use Rattle.overlay.specs.Range.{sourceOf}
 use Rattle.overlay.specs.Trial.{Trial}
 use Rattle.overlay.specs.declared.Source.the-variants.{Overlay, Released}
 use Rattle.print_text.specs.Ascii.{ascii}
 use Rattle.print_text.specs.Lines.{line, refusalText}
-use Rattle.record_fault.specs.Reading.{sound, faulty, readText}
+use Rattle.record_scan.specs.Reading.{sound, faulty, readText}
 use Rattle.record_lines.specs.Pieces.{Piece}
 use Rattle.record_read.specs.Given.{filled}
 use Rattle.record_read.specs.Runs.{reach, blocksGiven}

@@ -11,8 +11,8 @@ use borrow.Author.Tests.{ltb-true, ltb-false}
 use lib.Dec.{ltb}
 use lib.ListN.{length, take, getD, length-take}
 use lib.Seq.{getD-take}
-use Rattle.refusal.specs.Laws.Bools.{either, clash}
-use Rattle.refusal.specs.Laws.Pick.{pick-true, pick-false}
+use Rattle.prelude.specs.Laws.Bools.{either, clash}
+use Rattle.prelude.specs.Laws.Pick.{pick-true, pick-false}
 use Rattle.blocks.specs.Outcome.{origins, sizes}
 use Rattle.blocks.specs.Walk.{endOf}
 use Rattle.blocks.specs.declared.Block.{Block}

@@ -3,9 +3,9 @@ use mathlib.Core.Path.{_≡_, refl}
 use mathlib.Core.Bool.{Bool, true, false}
 use lib.IntN.{ℤ, pos, natAbs}
 use lib.Signed.{ltZ}
-use Rattle.refusal.specs.Pick.{pick}
-use Rattle.refusal.specs.declared.Opt.{Opt}
-use Rattle.refusal.specs.declared.Opt.the-variants.{None, Some}
+use Rattle.prelude.specs.Pick.{pick}
+use Rattle.prelude.specs.declared.Opt.{Opt}
+use Rattle.prelude.specs.declared.Opt.the-variants.{None, Some}
 use Rattle.print_map.specs.Cells.{number, minus, signed, optional}
 use Rattle.print_map.specs.Marks.{cellOf, markOf, signOf, valueOf}
 

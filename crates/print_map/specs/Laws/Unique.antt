@@ -2,7 +2,7 @@
 use mathlib.Core.Path.{_≡_}
 use mathlib.Core.List.{List}
 use Prim.Native.Nat.{ℕ}
-use Rattle.refusal.specs.Laws.Pick.{determined}
+use Rattle.prelude.specs.Laws.Pick.{determined}
 use Rattle.print_text.specs.Puts.{Writes}
 
 pub writes-unique : {text old : List ℕ} {at r s : ℕ} {a b : List ℕ} → Writes text old at r a → Writes text old at s b → (r ≡ s) × (a ≡ b)

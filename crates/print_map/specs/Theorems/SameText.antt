@@ -4,8 +4,8 @@ use mathlib.Core.Path.{_≡_, refl, sym, ap, _∙_}
 use mathlib.Core.List.{List, [], _∷_, _++_, append-assoc}
 use Prim.Native.Nat.{ℕ}
 use native.Mathlib.Omega.{arith}
-use Rattle.refusal.specs.declared.Opt.{Opt}
-use Rattle.refusal.specs.declared.Refusal.{Refusal}
+use Rattle.prelude.specs.declared.Opt.{Opt}
+use Rattle.prelude.specs.declared.Refusal.{Refusal}
 use Rattle.form_fields.specs.Shape.{formOf}
 use Rattle.form_fields.specs.declared.Form.{Form}
 use Rattle.form_fields.specs.declared.Form.the-variants.{Sound, Broken}

@@ -4,8 +4,8 @@ use mathlib.Core.List.{List}
 use Prim.Native.Nat.{ℕ, _≤_}
 use native.Mathlib.Omega.{arith}
 use lib.ListN.{length, take}
-use Rattle.refusal.specs.Limits.{maxNodes}
-use Rattle.refusal.specs.declared.Refusal.{Refusal}
+use Rattle.prelude.specs.Limits.{maxNodes}
+use Rattle.prelude.specs.declared.Refusal.{Refusal}
 use Rattle.blocks.specs.Spans.{spansOf}
 use Rattle.blocks.specs.Walk.{blocksOf}
 use Rattle.blocks.specs.declared.Blocks.the-variants.{Found, Refused}

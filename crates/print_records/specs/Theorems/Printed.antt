@@ -9,10 +9,10 @@ use native.Mathlib.Omega.{arith}
 use borrow.Author.Tests.{eq-eqb, eqb-false, ne-eqb}
 use lib.Dec.{eqb}
 use lib.ListN.{length, getD, length-map}
-use Rattle.refusal.specs.Laws.Bools.{both}
-use Rattle.refusal.specs.Pick.{pick}
-use Rattle.refusal.specs.declared.Opt.{Opt}
-use Rattle.refusal.specs.declared.Refusal.{Refusal}
+use Rattle.prelude.specs.Laws.Bools.{both}
+use Rattle.prelude.specs.Pick.{pick}
+use Rattle.prelude.specs.declared.Opt.{Opt}
+use Rattle.prelude.specs.declared.Refusal.{Refusal}
 use Rattle.bankdef.specs.Check.{banksOf}
 use Rattle.bitvec.specs.Bits.{Bytes}
 use Rattle.bitvec.specs.Part.{isPart}
@@ -21,8 +21,8 @@ use Rattle.bitvec.specs.Theorems.Written.{bytes-written}
 use Rattle.blocks.specs.Outcome.{origins, sizes}
 use Rattle.blocks.specs.Walk.{block}
 use Rattle.blocks.specs.declared.Block.{Block}
-use Rattle.build_sights.specs.Items.{Item, itemsOf, imageOf}
-use Rattle.build_sights.specs.Spans.{spansOf as spansIn, words, sizes as spanSizes}
+use Rattle.build_visits.specs.Items.{Item, itemsOf, imageOf}
+use Rattle.build_visits.specs.Spans.{spansOf as spansIn, words, sizes as spanSizes}
 use Rattle.build_write.specs.Blank.{blankOf}
 use Rattle.build_write.specs.Laws.Blank.{blank-bytes}
 use Rattle.output.specs.declared.Build.the-variants.{Done, Refused}
@@ -34,7 +34,7 @@ use Rattle.form_build.specs.Filed.{listsIn, fileOutput, outputBy, fileVisits}
 use Rattle.print_report.specs.Report.{lentRoom}
 use Rattle.print_answer.specs.Answer.{imageRoom}
 use Rattle.print_text.specs.Lines.{refusalText}
-use Rattle.record_fault.specs.Reading.{sound, readText}
+use Rattle.record_scan.specs.Reading.{sound, readText}
 use Rattle.record_write.specs.Theorems.HexFile as hex-file
 use Rattle.record_lines.specs.Pieces.{GivesAt}
 use Rattle.record_write.specs.Theorems.Width.{width-exactly}

@@ -8,7 +8,7 @@ use Rattle.print_text.specs.Ascii.{ascii}
 use Rattle.print_text.specs.Lines.{line, refusalText}
 use Rattle.prog_args.specs.Laws.Text.{to-same, then-ends, then-stands}
 use Rattle.prog_args.specs.Theorems.Text.{line-words}
-use Rattle.record_fault.specs.Reading.{readText}
+use Rattle.record_scan.specs.Reading.{readText}
 use Rattle.print_rehex.specs.Laws.Turned.{good-behind, fault-behind}
 use borrow.Author.Needs.{needs}
 use Rattle.print_rehex.proofs.put_fault.Statement.{statement}

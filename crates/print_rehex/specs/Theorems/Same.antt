@@ -6,10 +6,10 @@ use mathlib.Core.Logic.{_↔_}
 use Prim.Native.Nat.{ℕ, _≤_}
 use borrow.Author.Tests.{le-leb}
 use lib.ListN.{length}
-use Rattle.refusal.specs.Laws.Pick.{pick-true}
-use Rattle.refusal.specs.declared.Refusal.the-variants.{Malformed}
+use Rattle.prelude.specs.Laws.Pick.{pick-true}
+use Rattle.prelude.specs.declared.Refusal.the-variants.{Malformed}
 use Rattle.print_text.specs.Lines.{refusalText}
-use Rattle.record_fault.specs.Reading.{sound, faulty, readText}
+use Rattle.record_scan.specs.Reading.{sound, faulty, readText}
 use Rattle.record_lines.specs.Pieces.{Piece, GivesAt}
 use Rattle.record_read.specs.Given.{filled}
 use Rattle.record_read.specs.Runs.{reach, blocksGiven}

@@ -7,16 +7,16 @@ use lib.Dec.{ltb}
 use lib.ListN.{length, getD, take, drop}
 use lib.Seq.{getD-drop}
 use borrow.Author.Tests.{ltb-false}
-use Rattle.refusal.specs.Laws.Bools.{unlike}
-use Rattle.refusal.specs.Limits.{maxPosition}
-use Rattle.refusal.specs.Laws.Pick.{pick-true, pick-false}
-use Rattle.refusal.specs.declared.Refusal.{Refusal}
-use Rattle.refusal.specs.declared.Refusal.the-variants.{TooShort}
+use Rattle.prelude.specs.Laws.Bools.{unlike}
+use Rattle.prelude.specs.Limits.{maxPosition}
+use Rattle.prelude.specs.Laws.Pick.{pick-true, pick-false}
+use Rattle.prelude.specs.declared.Refusal.{Refusal}
+use Rattle.prelude.specs.declared.Refusal.the-variants.{TooShort}
 use Rattle.resolver.specs.declared.Settled.{Settled}
 use Rattle.resolver.specs.declared.Settled.the-variants.{At, Refused as Unsettled}
-use Rattle.build_sights.specs.Items.{itemsOf, lengthOf}
+use Rattle.build_visits.specs.Items.{itemsOf, lengthOf}
 use Rattle.build_plan.specs.Placing.{Placed, holds, stops, placedAll}
-use Rattle.build_sights.specs.Spans.{spansOf}
+use Rattle.build_visits.specs.Spans.{spansOf}
 use Rattle.output.specs.Output.{Input, Room, roomFor, placedBuild, settledBuild, visitsOf, closedOf, fillOf}
 use Rattle.output.specs.declared.Build.the-variants.{Done, Refused}
 use Rattle.form_fields.specs.Laws.Fields.{by-test}

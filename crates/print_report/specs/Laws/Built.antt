@@ -6,17 +6,17 @@ use Prim.Native.Nat.{ℕ, _+_, _≤_, _<_}
 use native.Mathlib.Omega.{arith}
 use lib.ListN.{length, getD, take, length-map}
 use lib.Seq.{take-at}
-use Rattle.refusal.specs.Limits.{maxPosition}
-use Rattle.refusal.specs.declared.Refusal.{Refusal}
-use Rattle.refusal.specs.declared.Opt.{Opt}
-use Rattle.refusal.specs.declared.Opt.the-variants.{None, Some}
-use Rattle.refusal.specs.declared.Verdict.{Verdict}
-use Rattle.refusal.specs.declared.Verdict.the-variants.{Accepted, Refused as TurnedAway}
+use Rattle.prelude.specs.Limits.{maxPosition}
+use Rattle.prelude.specs.declared.Refusal.{Refusal}
+use Rattle.prelude.specs.declared.Opt.{Opt}
+use Rattle.prelude.specs.declared.Opt.the-variants.{None, Some}
+use Rattle.prelude.specs.declared.Verdict.{Verdict}
+use Rattle.prelude.specs.declared.Verdict.the-variants.{Accepted, Refused as TurnedAway}
 use Rattle.blocks.specs.Spans.{acceptable}
 use Rattle.bankdef.specs.Check.{banksOf}
 use Rattle.build_write.specs.Blank.{blankOf}
-use Rattle.build_sights.specs.Items.{itemsOf, imageOf}
-use Rattle.build_sights.specs.Spans.{Span, spansOf, words, sizes}
+use Rattle.build_visits.specs.Items.{itemsOf, imageOf}
+use Rattle.build_visits.specs.Spans.{Span, spansOf, words, sizes}
 use Rattle.output.specs.Output.{Input, input, Lent, roomOf, buildOf, visitsOf, passesOf, settledOf}
 use Rattle.output.specs.Output.{filled, leftBy}
 use Rattle.output.specs.declared.Build.{Build}

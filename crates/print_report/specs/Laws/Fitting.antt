@@ -7,12 +7,12 @@ use native.Mathlib.Omega.{arith}
 use lib.Dec.{eqb}
 use lib.ListN.{length, getD, length-map}
 use borrow.Author.Tests.{le-leb, leb-true, eq-eqb}
-use Rattle.refusal.specs.Limits.{maxNodes, maxOffer, maxPosition}
-use Rattle.refusal.specs.Pick.{pick}
-use Rattle.refusal.specs.declared.Offset.{Offset}
-use Rattle.refusal.specs.declared.Offset.the-variants.{None as Nowhere, At as Out}
-use Rattle.refusal.specs.declared.Opt.{Opt}
-use Rattle.refusal.specs.declared.Opt.the-variants.{None, Some}
+use Rattle.prelude.specs.Limits.{maxNodes, maxOffer, maxPosition}
+use Rattle.prelude.specs.Pick.{pick}
+use Rattle.prelude.specs.declared.Offset.{Offset}
+use Rattle.prelude.specs.declared.Offset.the-variants.{None as Nowhere, At as Out}
+use Rattle.prelude.specs.declared.Opt.{Opt}
+use Rattle.prelude.specs.declared.Opt.the-variants.{None, Some}
 use Rattle.bankdef.specs.Check.{noBank}
 use Rattle.bankdef.specs.declared.Bankdef.{Bankdef}
 use Rattle.iter.specs.Address.{outAt}
@@ -23,8 +23,8 @@ use Rattle.iter.specs.WithinLimit.{Small, AllSmall}
 use Rattle.iter.specs.Laws.WithinLimit.{Within, seen-within}
 use Rattle.iter.specs.Theorems.WithinLimit.{step-within, never-past}
 use Rattle.iter.specs.declared.Stepped.{Stepped}
-use Rattle.lists.specs.Kinds.{addsNumber}
-use Rattle.lists.specs.Lists.{Row, rowAt}
+use Rattle.nodes.specs.Kinds.{addsNumber}
+use Rattle.nodes.specs.Lists.{Row, rowAt}
 use Rattle.resolver.specs.Theorems.Listed.{either-record}
 use Rattle.resolver.specs.Passes.{program, rowOfPass}
 use Rattle.resolver.specs.Once.{Program, node, bankRecord, bankOf, walkTo}
@@ -32,9 +32,9 @@ use Rattle.blocks.specs.Offsets.{offsetOf, wordOf}
 use Rattle.blocks.specs.Laws.Offsets.{at-of-word}
 use Rattle.blocks.specs.Spans.{offsetWithin, spansOf, allWithin, acceptable}
 use Rattle.output.specs.Output.{Input, visitsOf}
-use Rattle.build_sights.specs.Visits.{seenPos, positionOf, visitAt, visitsTo, each}
-use Rattle.build_sights.specs.Laws.VisitLaws.{each-next, visits-none}
-use Rattle.build_sights.specs.Spans.{Span, isSpan, spanAt, spanOf, spansOf as spansIn, words, sizes}
+use Rattle.build_visits.specs.Visits.{seenPos, positionOf, visitAt, visitsTo, each}
+use Rattle.build_visits.specs.Laws.VisitLaws.{each-next, visits-none}
+use Rattle.build_visits.specs.Spans.{Span, isSpan, spanAt, spanOf, spansOf as spansIn, words, sizes}
 use Rattle.form_fields.specs.Laws.Fields.{by-test}
 use Rattle.print_report.specs.Laws.Accepted.{small-part}
 use Rattle.print_report.specs.Steps.{OffsetFits, OffsetsFit}

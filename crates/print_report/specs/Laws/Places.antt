@@ -8,27 +8,27 @@ use native.Mathlib.Omega.{arith}
 use borrow.Author.Tests.{leb-true, ltb-true}
 use lib.Dec.{ltb, eqb}
 use lib.ListN.{length, getD, length-take}
-use Rattle.refusal.specs.Laws.Bools.{both}
-use Rattle.refusal.specs.Limits.{maxOffer, maxPosition}
-use Rattle.refusal.specs.Pick.{pick}
-use Rattle.refusal.specs.declared.Offset.{Offset}
-use Rattle.refusal.specs.declared.Offset.the-variants.{None as Nowhere, At as Out}
-use Rattle.refusal.specs.declared.Refusal.{Refusal}
-use Rattle.refusal.specs.declared.Refusal.the-variants.{Malformed, Unresolved, DefaultBank, PastBank, NoOutput, Overlap, StoreFull, TooShort, OffProfile}
-use Rattle.refusal.specs.declared.Verdict.{Verdict}
-use Rattle.refusal.specs.declared.Verdict.the-variants.{Accepted, Refused}
+use Rattle.prelude.specs.Laws.Bools.{both}
+use Rattle.prelude.specs.Limits.{maxOffer, maxPosition}
+use Rattle.prelude.specs.Pick.{pick}
+use Rattle.prelude.specs.declared.Offset.{Offset}
+use Rattle.prelude.specs.declared.Offset.the-variants.{None as Nowhere, At as Out}
+use Rattle.prelude.specs.declared.Refusal.{Refusal}
+use Rattle.prelude.specs.declared.Refusal.the-variants.{Malformed, Unresolved, DefaultBank, PastBank, NoOutput, Overlap, StoreFull, TooShort, OffProfile}
+use Rattle.prelude.specs.declared.Verdict.{Verdict}
+use Rattle.prelude.specs.declared.Verdict.the-variants.{Accepted, Refused}
 use Rattle.bankdef.specs.Check.{checkOf}
 use Rattle.bankdef.specs.Refused.{Decided, count, number, pair, sound}
 use Rattle.bankdef.specs.Theorems.Refused.{decided}
 use Rattle.bankdef.specs.declared.Bankdefs.{Bankdefs}
 use Rattle.iter.specs.declared.Moved.{Moved}
 use Rattle.iter.specs.declared.Moved.the-variants.{To, Refused as Stopped}
-use Rattle.lists.specs.Kinds.{sizeOf}
-use Rattle.lists.specs.declared.Node.{Node}
+use Rattle.nodes.specs.Kinds.{sizeOf}
+use Rattle.nodes.specs.declared.Node.{Node}
 use Rattle.iter.specs.declared.Pos.{Pos}
 use Rattle.resolver.specs.Laws.Ends.{Ending, early, last, ends}
 use Rattle.resolver.specs.Layout.{unless, layoutOf}
-use Rattle.lists.specs.Lists.{Lists, Row, listsOf, nodesTo, nodeFault, knownFill, nodeCountSound, rowCountSound, firstOf}
+use Rattle.nodes.specs.Lists.{Lists, Row, listsOf, nodesTo, nodeFault, knownFill, nodeCountSound, rowCountSound, firstOf}
 use Rattle.resolver.specs.Theorems.NodeOrder.{StopsAt, first-met}
 use Rattle.resolver.specs.NodeOrder.{seenAt, defAt}
 use Rattle.resolver.specs.Once.{Program, node, walkTo, bankRecord}
@@ -54,16 +54,16 @@ use Rattle.build_profile.specs.OneBit.{oneBit}
 use Rattle.build_profile.specs.Profile.{verdictOf}
 use Rattle.build_profile.specs.Rules.{bankAligned, onPage, wholePages, unitKept, firstBroken, all, ruled, alignsKept, addrsKept, rulesOf}
 use Rattle.blocks.specs.Spans.{offsetWithin}
-use Rattle.build_sights.specs.Items.{isWritten}
+use Rattle.build_visits.specs.Items.{isWritten}
 use Rattle.output.specs.Output.{Room, placedBuild}
 use Rattle.build_plan.specs.Placing.{isPlaced, isOffered, bitsAt, usesDefault, endsPast, lacksOutput, checked, answered, placing}
 use Rattle.build_plan.specs.Placing.{verdictSeen, verdictOn, offerOf}
 use Rattle.build_plan.specs.Placing.{Placed, holds, stops, placedIf, placedNext, placedFrom, placedAll}
 use Rattle.build_plan.specs.Laws.PlacingLaws.{placed-last}
-use Rattle.build_sights.specs.Visits.{visitAt, visitsTo}
+use Rattle.build_visits.specs.Visits.{visitAt, visitsTo}
 use Rattle.output.specs.declared.Build.{Build}
 use Rattle.output.specs.declared.Build.the-variants.{Done, Refused as Unbuilt}
-use Rattle.build_sights.specs.declared.Visit.{Visit}
+use Rattle.build_visits.specs.declared.Visit.{Visit}
 use Rattle.print_report.specs.Blocks.{farthest}
 use Rattle.print_report.specs.Laws.Fitting.{small, span-fits}
 use Rattle.print_report.specs.Steps.{OffsetsFit}

@@ -6,23 +6,23 @@ use Prim.Native.Nat.{ℕ, _+_, _*_, _≤_, _<_}
 use native.Mathlib.Omega.{arith}
 use lib.Dec.{ltb}
 use lib.ListN.{length}
-use Rattle.refusal.specs.Laws.Bools.{unlike}
-use Rattle.refusal.specs.Limits.{maxPosition}
-use Rattle.refusal.specs.Pick.{pick}
-use Rattle.refusal.specs.Refusals.{placeOf}
-use Rattle.refusal.specs.Told.{Told, gives, refuses}
-use Rattle.refusal.specs.declared.Place.{Place}
-use Rattle.refusal.specs.declared.Place.the-variants.{One, Two}
-use Rattle.refusal.specs.declared.Refusal.{Refusal}
-use Rattle.refusal.specs.declared.Refusal.the-variants.{TooShort as ShortOf}
+use Rattle.prelude.specs.Laws.Bools.{unlike}
+use Rattle.prelude.specs.Limits.{maxPosition}
+use Rattle.prelude.specs.Pick.{pick}
+use Rattle.prelude.specs.Refusals.{placeOf}
+use Rattle.prelude.specs.Told.{Told, gives, refuses}
+use Rattle.prelude.specs.declared.Place.{Place}
+use Rattle.prelude.specs.declared.Place.the-variants.{One, Two}
+use Rattle.prelude.specs.declared.Refusal.{Refusal}
+use Rattle.prelude.specs.declared.Refusal.the-variants.{TooShort as ShortOf}
 use Rattle.bitvec.specs.Bits.{Bytes}
 use Rattle.resolver.specs.Laws.Answer.{accepted-layout}
 use Rattle.resolver.specs.declared.Settled.{Settled}
 use Rattle.resolver.specs.declared.Settled.the-variants.{At, Refused as Unsettled}
-use Rattle.build_sights.specs.Items.{itemsOf, lengthOf}
+use Rattle.build_visits.specs.Items.{itemsOf, lengthOf}
 use Rattle.output.specs.Output.{Input, Room, placedBuild, settledBuild, visitsOf, closedOf, fillOf, settledOf}
 use Rattle.build_plan.specs.Placing.{Placed, holds, stops, placedAll}
-use Rattle.build_sights.specs.Spans.{spansOf as spansIn}
+use Rattle.build_visits.specs.Spans.{spansOf as spansIn}
 use Rattle.output.specs.declared.Build.{Build}
 use Rattle.output.specs.declared.Build.the-variants.{Done, Refused}
 use Rattle.form_fields.specs.Kind.{kindOf}

@@ -1,14 +1,14 @@
 -- Theorems about what Places defines.
 use Prim.Native.Nat.{ℕ, _-_, _≤_, min}
 use lib.ListN.{length, getD}
-use Rattle.refusal.specs.Limits.{maxPosition}
+use Rattle.prelude.specs.Limits.{maxPosition}
 use Rattle.resolver.specs.Passes.{program, rowOfPass}
 use Rattle.resolver.specs.declared.Settled.{Settled}
 use Rattle.resolver.specs.declared.Settled.the-variants.{At, Refused as Unsettled}
-use Rattle.build_sights.specs.Items.{itemsOf, lengthOf}
+use Rattle.build_visits.specs.Items.{itemsOf, lengthOf}
 use Rattle.output.specs.Output.{Input, Room, settledBuild, buildOf, visitsOf, closedOf, fillOf, passesOf, settledOf}
 use Rattle.build_plan.specs.Placing.{placedAll}
-use Rattle.build_sights.specs.Spans.{spansOf}
+use Rattle.build_visits.specs.Spans.{spansOf}
 use Rattle.build_paged.specs.InProfile.{saidOf}
 use Rattle.print_report.specs.Blocks.{farthest}
 use Rattle.print_report.specs.Laws.Fitting.{row-small}

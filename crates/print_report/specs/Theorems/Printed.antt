@@ -3,13 +3,13 @@ use mathlib.Core.Path.{_≡_, ap, ap₂, _∙_}
 use mathlib.Core.List.{List, [], _∷_, _++_}
 use Prim.Native.Nat.{ℕ, _+_}
 use lib.ListN.{length}
-use Rattle.refusal.specs.Laws.Bools.{unlike}
-use Rattle.refusal.specs.Refusals.{numberOf, placeOf}
-use Rattle.refusal.specs.Told.{Told, gives, refuses}
-use Rattle.refusal.specs.declared.Opt.{Opt}
-use Rattle.refusal.specs.declared.Place.{Place}
-use Rattle.refusal.specs.declared.Place.the-variants.{One}
-use Rattle.refusal.specs.declared.Refusal.{Refusal}
+use Rattle.prelude.specs.Laws.Bools.{unlike}
+use Rattle.prelude.specs.Refusals.{numberOf, placeOf}
+use Rattle.prelude.specs.Told.{Told, gives, refuses}
+use Rattle.prelude.specs.declared.Opt.{Opt}
+use Rattle.prelude.specs.declared.Place.{Place}
+use Rattle.prelude.specs.declared.Place.the-variants.{One}
+use Rattle.prelude.specs.declared.Refusal.{Refusal}
 use Rattle.bitvec.specs.HexDigits.{hexOf}
 use Rattle.blocks.specs.Outcome.{origins, sizes}
 use Rattle.output.specs.declared.Build.{Build}

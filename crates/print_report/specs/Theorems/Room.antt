@@ -8,13 +8,13 @@ use native.Mathlib.Omega.{arith}
 use lib.ListN.{length, getD, take, drop, length-take}
 use lib.Seq.{take-all}
 use borrow.Author.Tests.{le-leb, lt-ltb}
-use Rattle.refusal.specs.Limits.{maxPosition}
-use Rattle.refusal.specs.Laws.Pick.{pick-true}
-use Rattle.refusal.specs.declared.Opt.{Opt}
-use Rattle.refusal.specs.declared.Opt.the-variants.{None, Some}
-use Rattle.refusal.specs.declared.Refusal.the-variants.{Malformed}
-use Rattle.refusal.specs.declared.Verdict.{Verdict}
-use Rattle.refusal.specs.declared.Verdict.the-variants.{Accepted, Refused as TurnedAway}
+use Rattle.prelude.specs.Limits.{maxPosition}
+use Rattle.prelude.specs.Laws.Pick.{pick-true}
+use Rattle.prelude.specs.declared.Opt.{Opt}
+use Rattle.prelude.specs.declared.Opt.the-variants.{None, Some}
+use Rattle.prelude.specs.declared.Refusal.the-variants.{Malformed}
+use Rattle.prelude.specs.declared.Verdict.{Verdict}
+use Rattle.prelude.specs.declared.Verdict.the-variants.{Accepted, Refused as TurnedAway}
 use Rattle.bitvec.specs.Bits.{Bytes}
 use Rattle.bitvec.specs.HexDigits.{hexOf}
 use Rattle.bitvec.specs.Theorems.HexDigits.{length-hexOf}
@@ -25,7 +25,7 @@ use Rattle.blocks.specs.Spans.{spansOf, acceptable}
 use Rattle.blocks.specs.Walk.{blocksOf}
 use Rattle.resolver.specs.Laws.Least.{or-past}
 use Rattle.output.specs.Output.{Input, input, settledBuild, buildOf, visitsOf, passesOf, settledOf}
-use Rattle.build_sights.specs.Spans.{spansOf as spansIn, words, sizes as spanSizes}
+use Rattle.build_visits.specs.Spans.{spansOf as spansIn, words, sizes as spanSizes}
 use Rattle.output.specs.declared.Build.{Build}
 use Rattle.output.specs.declared.Build.the-variants.{Done, Refused}
 use Rattle.output.specs.declared.Output.{Output}

@@ -2,7 +2,7 @@
 use mathlib.Core.Path.{_≡_}
 use mathlib.Core.List.{List}
 use Prim.Native.Nat.{ℕ}
-use Rattle.refusal.specs.declared.Opt.{Opt}
+use Rattle.prelude.specs.declared.Opt.{Opt}
 use Rattle.print_text.specs.declared.Written.{Written}
 use Rattle.print_text.specs.Puts.{Puts}
 use Rattle.print_text.specs.Theorems.Unique.{puts-unique}

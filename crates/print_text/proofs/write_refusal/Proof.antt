@@ -5,11 +5,11 @@ use native.Mathlib.Omega.{arith}
 use lib.ListN.{length}
 use borrow.Fn.Kinds.{GoodsP}
 use contract.Lifetimes.{Lfts}
-use Rattle.refusal.specs.Refusals.{placeOf}
-use Rattle.refusal.specs.declared.Refusal.{Refusal}
-use Rattle.refusal.specs.declared.Refusal.the-variants.{BankCount, BankNumber, BanksOverlap, Malformed, PositionPast, LabelOffBoundary, Unresolved}
-use Rattle.refusal.specs.declared.Refusal.the-variants.{DefaultBank, PastBank, NoOutput, Overlap, StoreFull, TooShort as Short, BadStore, BadPart}
-use Rattle.refusal.specs.declared.Refusal.the-variants.{PartlyCovered, FillBitDropped, OffProfile}
+use Rattle.prelude.specs.Refusals.{placeOf}
+use Rattle.prelude.specs.declared.Refusal.{Refusal}
+use Rattle.prelude.specs.declared.Refusal.the-variants.{BankCount, BankNumber, BanksOverlap, Malformed, PositionPast, LabelOffBoundary, Unresolved}
+use Rattle.prelude.specs.declared.Refusal.the-variants.{DefaultBank, PastBank, NoOutput, Overlap, StoreFull, TooShort as Short, BadStore, BadPart}
+use Rattle.prelude.specs.declared.Refusal.the-variants.{PartlyCovered, FillBitDropped, OffProfile}
 use Rattle.print_text.specs.Laws.Ends.{put-writes, put-fits}
 use Rattle.print_text.specs.Lengths.{AllWords}
 use Rattle.print_text.specs.Lines.{placeNumbers, refusalText}

@@ -6,7 +6,7 @@ use native.Mathlib.Decide.{decLt}
 use native.Mathlib.Omega.{arith}
 use lib.ListN.{length}
 use borrow.Author.Tests.{lt-ltb}
-use Rattle.refusal.specs.Laws.Pick.{pick-true}
+use Rattle.prelude.specs.Laws.Pick.{pick-true}
 use Rattle.print_text.specs.Decimal.{decimal, digit, digitsIn, valueFrom}
 
 -- ---- the equations a reader expects

@@ -8,8 +8,8 @@ use lib.Dec.{leb}
 use lib.ListN.{length}
 use lib.Seq.{sets-eq}
 use borrow.Author.Tests.{le-leb, lt-leb}
-use Rattle.refusal.specs.Pick.{pick}
-use Rattle.refusal.specs.Laws.Pick.{pick-true, pick-false}
+use Rattle.prelude.specs.Pick.{pick}
+use Rattle.prelude.specs.Laws.Pick.{pick-true, pick-false}
 use Rattle.print_text.specs.declared.Written.{Written}
 use Rattle.print_text.specs.declared.Written.the-variants.{To, TooShort}
 use Rattle.print_text.specs.Puts.{endOf, Writes, Puts}

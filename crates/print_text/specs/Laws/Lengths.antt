@@ -4,13 +4,13 @@ use mathlib.Core.List.{List, [], _∷_, _++_}
 use Prim.Native.Nat.{ℕ, _+_, _*_, _≤_, _<_}
 use native.Mathlib.Omega.{arith}
 use lib.ListN.{length, length-append}
-use Rattle.refusal.specs.Refusals.{numberOf}
-use Rattle.refusal.specs.declared.Place.{Place}
-use Rattle.refusal.specs.declared.Place.the-variants.{One, Two}
-use Rattle.refusal.specs.declared.Refusal.{Refusal}
-use Rattle.refusal.specs.declared.Refusal.the-variants.{BankCount, BankNumber, BanksOverlap, Malformed, PositionPast, LabelOffBoundary, Unresolved}
-use Rattle.refusal.specs.declared.Refusal.the-variants.{DefaultBank, PastBank, NoOutput, Overlap, StoreFull, TooShort, BadStore, BadPart}
-use Rattle.refusal.specs.declared.Refusal.the-variants.{PartlyCovered, FillBitDropped, OffProfile}
+use Rattle.prelude.specs.Refusals.{numberOf}
+use Rattle.prelude.specs.declared.Place.{Place}
+use Rattle.prelude.specs.declared.Place.the-variants.{One, Two}
+use Rattle.prelude.specs.declared.Refusal.{Refusal}
+use Rattle.prelude.specs.declared.Refusal.the-variants.{BankCount, BankNumber, BanksOverlap, Malformed, PositionPast, LabelOffBoundary, Unresolved}
+use Rattle.prelude.specs.declared.Refusal.the-variants.{DefaultBank, PastBank, NoOutput, Overlap, StoreFull, TooShort, BadStore, BadPart}
+use Rattle.prelude.specs.declared.Refusal.the-variants.{PartlyCovered, FillBitDropped, OffProfile}
 use Rattle.print_text.specs.Ascii.{ascii}
 use Rattle.print_text.specs.Decimal.{decimal}
 use Rattle.print_text.specs.Theorems.Decimal.{decimal-length}

@@ -7,7 +7,7 @@ use native.Mathlib.Decide.{decLt}
 use native.Mathlib.Omega.{arith}
 use lib.ListN.{length, getD, length-append, List·getD-append}
 use borrow.Author.Tests.{le-ltb}
-use Rattle.refusal.specs.Laws.Pick.{pick-false}
+use Rattle.prelude.specs.Laws.Pick.{pick-false}
 use Rattle.print_text.specs.Decimal.{decimal, digit, digitsIn, valueFrom}
 use Rattle.print_text.specs.Laws.Decimal.{by-tens, decimal-few, few, valueFrom-last}
 

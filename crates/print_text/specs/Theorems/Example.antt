@@ -1,7 +1,7 @@
 -- Document 01's worked example, as it is printed, and lines of the settled readings.
 use mathlib.Core.Path.{_≡_, refl}
 use mathlib.Core.List.{[], _∷_}
-use Rattle.refusal.specs.declared.Refusal.the-variants.{Malformed, Overlap}
+use Rattle.prelude.specs.declared.Refusal.the-variants.{Malformed, Overlap}
 use Rattle.print_text.specs.Ascii.{ascii}
 use Rattle.print_text.specs.Decimal.{decimal}
 use Rattle.print_text.specs.Lines.{spaced, refusalText, blocksText, imageText, layoutText}

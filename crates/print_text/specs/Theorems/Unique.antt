@@ -4,7 +4,7 @@
 use mathlib.Core.Path.{_≡_}
 use mathlib.Core.List.{List}
 use Prim.Native.Nat.{ℕ}
-use Rattle.refusal.specs.Laws.Pick.{determined}
+use Rattle.prelude.specs.Laws.Pick.{determined}
 use Rattle.print_text.specs.declared.Written.{Written}
 use Rattle.print_text.specs.Puts.{Puts}
 

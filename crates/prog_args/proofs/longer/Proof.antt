@@ -2,7 +2,7 @@
 use mathlib.Core.Path.{sym, ap}
 use Prim.Native.Nat.{ℕ, _+_, _*_}
 use native.Mathlib.Omega.{arith}
-use Rattle.refusal.specs.Laws.Pick.{pick-true, pick-false}
+use Rattle.prelude.specs.Laws.Pick.{pick-true, pick-false}
 use borrow.Author.Needs.{needs}
 use Rattle.prog_args.proofs.longer.Statement.{statement}
 use Rattle.prog_args.proofs.longer.Tie as tie

@@ -9,11 +9,11 @@ use Rattle.prog_args.specs.Laws.Text.{never-short, to-same, put-ends, pu
 use Rattle.prog_args.specs.Theorems.Text.{AllWords, refusal-fits}
 use borrow.Fn.Kinds.{GoodsP}
 use contract.Lifetimes.{Lfts}
-use Rattle.refusal.specs.declared.Refusal.{Refusal}
-use Rattle.refusal.specs.declared.Refusal.the-variants.{BankCount, BankNumber, BanksOverlap, Malformed, PositionPast, LabelOffBoundary, Unresolved}
-use Rattle.refusal.specs.declared.Refusal.the-variants.{DefaultBank, PastBank, NoOutput, Overlap, StoreFull, TooShort, BadStore, BadPart}
-use Rattle.refusal.specs.declared.Refusal.the-variants.{PartlyCovered, FillBitDropped, OffProfile}
-use Rattle.refusal.specs.Refusals.{placeOf}
+use Rattle.prelude.specs.declared.Refusal.{Refusal}
+use Rattle.prelude.specs.declared.Refusal.the-variants.{BankCount, BankNumber, BanksOverlap, Malformed, PositionPast, LabelOffBoundary, Unresolved}
+use Rattle.prelude.specs.declared.Refusal.the-variants.{DefaultBank, PastBank, NoOutput, Overlap, StoreFull, TooShort, BadStore, BadPart}
+use Rattle.prelude.specs.declared.Refusal.the-variants.{PartlyCovered, FillBitDropped, OffProfile}
+use Rattle.prelude.specs.Refusals.{placeOf}
 use Rattle.print_text.specs.Lines.{placeNumbers}
 use Rattle.prog_args.proofs.put_refusal.Kinds as kinds
 use borrow.Author.Needs.{needs}

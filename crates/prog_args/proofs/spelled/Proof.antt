@@ -3,7 +3,7 @@ use mathlib.Core.Path.{_≡_, refl, sym, ap, _∙_}
 use Prim.Native.Nat.{ℕ, _+_, _*_, _-_, _≤_}
 use native.Mathlib.Omega.{arith}
 use lib.ListN.{length, drop, getD}
-use Rattle.refusal.specs.Limits.{maxPosition}
+use Rattle.prelude.specs.Limits.{maxPosition}
 use Rattle.prog_args.specs.Number.{baseOf, numberFrom, spelledIn}
 use Rattle.prog_args.specs.Theorems.Number.{past-stays-past}
 use Rattle.prog_args.proofs.Laws.{some-text, no-text, no-digit, digit-on, digits-end}

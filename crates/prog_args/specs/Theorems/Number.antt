@@ -6,8 +6,8 @@ use Prim.Native.Nat.{ℕ, _+_, _*_, _-_, _<_}
 use native.Mathlib.Omega.{arith}
 use borrow.Author.Tests.{lt-leb}
 use lib.Dec.{ltb}
-use Rattle.refusal.specs.Limits.{maxPosition}
-use Rattle.refusal.specs.declared.Opt.the-variants.{None, Some}
+use Rattle.prelude.specs.Limits.{maxPosition}
+use Rattle.prelude.specs.declared.Opt.the-variants.{None, Some}
 use Rattle.prog_args.specs.Laws.Number.{either-none}
 use Rattle.prog_args.specs.Number.{digitValue, numberFrom, baseOf, numberIn}
 

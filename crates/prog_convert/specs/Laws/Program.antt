@@ -7,10 +7,10 @@ use native.Mathlib.Omega.{arith}
 use lib.Dec.{ltb}
 use lib.ListN.{length, take, drop, length-append, length-drop}
 use lib.Seq.{length-sets, sets-eq, take-at}
-use Rattle.refusal.specs.Limits.{maxNodes, maxRows}
-use Rattle.refusal.specs.Pick.{pick}
-use Rattle.refusal.specs.declared.Refusal.{Refusal}
-use Rattle.refusal.specs.declared.Refusal.the-variants.{Malformed, FillBitDropped, TooShort}
+use Rattle.prelude.specs.Limits.{maxNodes, maxRows}
+use Rattle.prelude.specs.Pick.{pick}
+use Rattle.prelude.specs.declared.Refusal.{Refusal}
+use Rattle.prelude.specs.declared.Refusal.the-variants.{Malformed, FillBitDropped, TooShort}
 use Rattle.form_fields.specs.Contents.{Contents, written}
 use Rattle.form_fields.specs.Kind.{Known}
 use Rattle.form_fields.specs.Shape.{formIn}

@@ -5,15 +5,15 @@ use Prim.Native.Nat.{ℕ, _≤_, _<_}
 use native.Mathlib.Omega.{arith}
 use lib.ListN.{length}
 use borrow.Author.Tests.{le-leb, lt-leb}
-use Rattle.refusal.specs.Laws.Pick.{pick-true, pick-false}
-use Rattle.refusal.specs.declared.Refusal.the-variants.{Malformed}
+use Rattle.prelude.specs.Laws.Pick.{pick-true, pick-false}
+use Rattle.prelude.specs.declared.Refusal.the-variants.{Malformed}
 use Rattle.print_rehex.specs.Rehex.{longest}
 use Rattle.print_text.specs.Ascii.{ascii}
 use Rattle.print_text.specs.Laws.Ends.{puts-writes}
 use Rattle.print_text.specs.Lines.{refusalText}
 use Rattle.prog_args.specs.Laws.Text.{put-stands}
 use Rattle.prog_args.specs.Theorems.Text.{line-words}
-use Rattle.record_fault.specs.Reading.{readText}
+use Rattle.record_scan.specs.Reading.{readText}
 use Rattle.record_reason.specs.Reasons.{whyOf}
 use Rattle.record_reason.specs.declared.Why.{Why}
 use Rattle.meets_texts.specs.Printed.{whyText, reasonText}

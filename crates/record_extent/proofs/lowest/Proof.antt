@@ -1,6 +1,6 @@
 -- `record_extent::lowest`: after k lines it is the lowest address of what they give.
 use Prim.Native.Nat.{_-_}
-use Rattle.record_fault.specs.Laws.Steps.{good-at}
+use Rattle.record_scan.specs.Laws.Steps.{good-at}
 use Rattle.record_extent.proofs.Laws.{Sinking, sinking-starts, sinking-on, sinking-ends}
 use borrow.Author.Needs.{needs}
 use Rattle.record_extent.proofs.lowest.Statement.{statement}

@@ -9,8 +9,8 @@ use borrow.Author.Tests.{eq-eqb, ne-eqb}
 use lib.Dec.{eqb, ltb}
 use lib.ListN.{length, drop, getD, drop-of-length-le}
 use lib.Seq.{drop-cons}
-use Rattle.refusal.specs.Pick.{pick}
-use Rattle.refusal.specs.Laws.Bools.{clash, both}
+use Rattle.prelude.specs.Pick.{pick}
+use Rattle.prelude.specs.Laws.Bools.{clash, both}
 use Rattle.record_lines.specs.Cuts.{endWidth}
 use Rattle.record_lines.specs.Digits.{valueOf, isDigit, allDigits}
 use Rattle.record_lines.specs.Lines.{isLf, isCr, lfNext, firstLine, taken}

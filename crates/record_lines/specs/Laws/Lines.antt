@@ -4,7 +4,7 @@ use mathlib.Core.Bool.{Bool, true, false, _&&_}
 use mathlib.Core.List.{List, [], _∷_}
 use Prim.Native.Nat.{ℕ, suc}
 use lib.ListN.{length, take, drop}
-use Rattle.refusal.specs.Pick.{pick}
+use Rattle.prelude.specs.Pick.{pick}
 use Rattle.record_lines.specs.Lines.{behind, firstLine, inFront, isCr, isLf, lfNext, linesOf, taken}
 
 -- A text that is not empty is its first line and the lines behind that.

@@ -7,7 +7,7 @@ use native.Mathlib.Nat.{add-zero, add-suc, suc-add}
 use native.Mathlib.Numerals.{add-one}
 use native.Mathlib.Omega.{arith}
 use lib.ListN.{length, take, drop, getD, set, length-append, length-drop, take-append-drop, drop-of-length-le}
-use Rattle.refusal.specs.Laws.Pick.{determined}
+use Rattle.prelude.specs.Laws.Pick.{determined}
 use lib.Seq.{sets, take-all, take-suc, take-set-le, drop-set-add, length-sets, length-take-le}
 use Rattle.record_lines.specs.Digits.{byteText, bytesText}
 use Rattle.record_lines.specs.Laws.DigitLaws.{length-bytesText, bytesText-append}

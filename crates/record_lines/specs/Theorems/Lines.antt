@@ -2,7 +2,7 @@
 use mathlib.Core.Path.{_≡_, refl}
 use mathlib.Core.List.{List, [], _∷_}
 use Prim.Native.Nat.{ℕ}
-use Rattle.refusal.specs.Laws.Pick.{pick-true}
+use Rattle.prelude.specs.Laws.Pick.{pick-true}
 use Rattle.record_lines.specs.Laws.Lines.{alone, before-more}
 use Rattle.record_lines.specs.Lines.{behind, firstLine, isCr, isLf, linesOf, taken}
 

@@ -1,8 +1,8 @@
 -- `record_read::by_scratch`: what was tested.
 use native.Mathlib.Omega.{arith}
 use mathlib.Core.Path.{refl, sym, _∙_}
-use Rattle.refusal.specs.Laws.Bools.{clash}
-use Rattle.record_fault.specs.Laws.Windows.{zero-cleared}
+use Rattle.prelude.specs.Laws.Bools.{clash}
+use Rattle.record_scan.specs.Laws.Windows.{zero-cleared}
 use Rattle.record_read.proofs.Scratch.{some-scratch}
 use borrow.Author.Needs.{needs}
 use Rattle.record_read.proofs.by_scratch.Statement.{statement}

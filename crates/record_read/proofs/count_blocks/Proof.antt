@@ -2,7 +2,7 @@
 use mathlib.Core.Path.{refl, ap, _∙_}
 use lib.ListN.{length}
 use native.Mathlib.Nat.{zero-add}
-use Rattle.record_fault.specs.Trail.{trail}
+use Rattle.record_scan.specs.Trail.{trail}
 use Rattle.record_read.specs.Runs.{blocksGiven}
 use borrow.Author.Needs.{needs}
 use Rattle.record_read.proofs.count_blocks.Statement.{statement}

@@ -3,7 +3,7 @@ use mathlib.Core.Path.{sym, subst}
 use mathlib.Core.List.{List}
 use lib.ListN.{length}
 use Prim.Native.Nat.{ℕ, _+_, _-_, _*_, _≤_}
-use Rattle.record_fault.specs.Laws.Steps.{good-at}
+use Rattle.record_scan.specs.Laws.Steps.{good-at}
 use Rattle.record_read.proofs.Fills.{Filling, filling-starts, filling-on, filling-long, filling-ends}
 use borrow.Author.Needs.{needs}
 use Rattle.record_read.proofs.fill.Statement.{statement}

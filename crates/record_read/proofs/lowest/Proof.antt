@@ -1,6 +1,6 @@
 -- `record_read::lowest`: after k lines it is the lowest stretch of what they give.
 use Prim.Native.Nat.{_-_}
-use Rattle.record_fault.specs.Laws.Steps.{good-at}
+use Rattle.record_scan.specs.Laws.Steps.{good-at}
 use Rattle.record_read.proofs.Loops.{Looking, looking-starts, looking-on, looking-ends}
 use borrow.Author.Needs.{needs}
 use Rattle.record_read.proofs.lowest.Statement.{statement}

@@ -1,7 +1,7 @@
 -- `record_read::store`: one pass where records ascend.
 use mathlib.Core.Path.{refl, sym, ap, _∙_}
 use lib.ListN.{length}
-use Rattle.record_fault.specs.Trail.{trail}
+use Rattle.record_scan.specs.Trail.{trail}
 use Rattle.record_read.specs.Theorems.GivenLaws.{filled-long}
 use Rattle.blocks.specs.Laws.Put.{put-long}
 use Rattle.record_read.proofs.store.Statement.{statement}

@@ -3,7 +3,7 @@ use mathlib.Core.Path.{sym, subst, _∙_}
 use mathlib.Core.List.{List}
 use lib.ListN.{length}
 use Prim.Native.Nat.{ℕ, _+_, _-_, _*_, _≤_}
-use Rattle.record_fault.specs.Laws.Steps.{good-at}
+use Rattle.record_scan.specs.Laws.Steps.{good-at}
 use Rattle.record_read.proofs.Fills.{Filling, filling-starts, filling-on, filling-long, filling-ends}
 use Rattle.record_read.proofs.Loops.{Rising, rising-starts, rising-on, rising-ends}
 use Rattle.blocks.specs.Laws.Put.{put-long}

@@ -5,7 +5,7 @@ use mathlib.Core.Path.{_≡_, sym, ap, subst, _∙_}
 use Prim.Native.Nat.{ℕ}
 use lib.ListN.{length}
 use Rattle.record_lines.specs.Pieces.{Piece}
-use Rattle.record_fault.specs.Trail.{trail}
+use Rattle.record_scan.specs.Trail.{trail}
 use Rattle.record_read.specs.Steps.{Usable}
 use Rattle.record_read.proofs.Room.{reads-short, reads-short-first, reads-short-second, reads-all}
 use borrow.Author.Needs.{needs}

@@ -4,7 +4,7 @@ use mathlib.Core.Path.{_∙_}
 use native.Mathlib.Omega.{arith}
 use Rattle.record_read.specs.Runs.{isGiven}
 use Rattle.record_read.specs.Steps.{Listed}
-use Rattle.record_fault.specs.Trail.{trail}
+use Rattle.record_scan.specs.Trail.{trail}
 use Rattle.record_read.proofs.Loops.{finding-on, finding-ends, finding-less}
 use Rattle.blocks.specs.Laws.Put.{put-long}
 use Rattle.record_read.proofs.Walks.{listed-starts, listed-room, listed-long}

@@ -7,7 +7,7 @@ use mathlib.Core.List.{List}
 use Prim.Native.Nat.{ℕ, _+_, _<_}
 use lib.ListN.{length}
 use Rattle.bitvec.specs.Clear.{cleared}
-use Rattle.record_fault.specs.Trail.{trail}
+use Rattle.record_scan.specs.Trail.{trail}
 use Rattle.record_read.specs.Runs.{isGiven}
 use Rattle.record_read.specs.Steps.{Listed}
 use Rattle.record_read.proofs.Loops.{finding-ends}

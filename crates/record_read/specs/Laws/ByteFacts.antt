@@ -6,9 +6,9 @@ use Prim.Native.Nat.{ℕ, _≤_, _<_}
 use native.Mathlib.Omega.{arith}
 use borrow.Author.Tests.{leb-true}
 use lib.Dec.{leb}
-use Rattle.refusal.specs.Laws.Bools.{either, both}
+use Rattle.prelude.specs.Laws.Bools.{either, both}
 use Rattle.record_lines.specs.Pieces.{Piece, endOf}
-use Rattle.record_fault.specs.Reading.{isNew}
+use Rattle.record_scan.specs.Reading.{isNew}
 use Rattle.record_read.specs.Given.{holds, given}
 
 -- What is new is not among what is given.

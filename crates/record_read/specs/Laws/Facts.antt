@@ -8,10 +8,10 @@ use native.Mathlib.Omega.{arith}
 use borrow.Author.Tests.{le-leb, lt-ltb, leb-true, ltb-true}
 use lib.Dec.{leb, ltb}
 use lib.ListN.{length, getD}
-use Rattle.refusal.specs.Laws.Bools.{either, clash, both, unlike}
-use Rattle.refusal.specs.Pick.{pick}
-use Rattle.refusal.specs.Told.{Told, gives, refuses}
-use Rattle.refusal.specs.declared.Place.the-variants.{One}
+use Rattle.prelude.specs.Laws.Bools.{either, clash, both, unlike}
+use Rattle.prelude.specs.Pick.{pick}
+use Rattle.prelude.specs.Told.{Told, gives, refuses}
+use Rattle.prelude.specs.declared.Place.the-variants.{One}
 use Rattle.record_lines.specs.Pieces.{Piece, endOf, GivesAt}
 use Rattle.record_read.specs.Given.{holds, given, byteAt}
 

@@ -6,14 +6,14 @@ use Prim.Native.Nat.{ℕ, _≤_}
 use lib.Dec.{leb}
 use lib.ListN.{length, take, drop, length-map}
 use lib.Seq.{take-at}
-use Rattle.refusal.specs.Laws.Bools.{unlike}
-use Rattle.refusal.specs.Pick.{pick}
-use Rattle.refusal.specs.declared.Refusal.{Refusal}
-use Rattle.refusal.specs.declared.Refusal.the-variants.{TooShort}
+use Rattle.prelude.specs.Laws.Bools.{unlike}
+use Rattle.prelude.specs.Pick.{pick}
+use Rattle.prelude.specs.declared.Refusal.{Refusal}
+use Rattle.prelude.specs.declared.Refusal.the-variants.{TooShort}
 use Rattle.blocks.specs.Outcome.{origins, sizes, roomFor, toldBy}
 use Rattle.blocks.specs.declared.Blocks.{Blocks}
 use Rattle.blocks.specs.declared.Blocks.the-variants.{Found, Refused}
-use Rattle.record_fault.specs.Reading.{Read, sound}
+use Rattle.record_scan.specs.Reading.{Read, sound}
 use Rattle.record_lines.specs.Pieces.{Piece}
 use Rattle.record_read.specs.Outcome.{Lent, answerOf, taken, Reads}
 use Rattle.record_read.specs.Runs.{reach, blocksGiven}

@@ -9,10 +9,10 @@ use borrow.Author.Tests.{le-leb, lt-leb, lt-ltb, le-ltb}
 use lib.Dec.{leb, ltb}
 use lib.ListN.{length, getD, length-append, List·getD-append}
 use lib.Seq.{getD-append-add}
-use Rattle.refusal.specs.Laws.Bools.{either, clash}
-use Rattle.refusal.specs.Pick.{pick}
+use Rattle.prelude.specs.Laws.Bools.{either, clash}
+use Rattle.prelude.specs.Pick.{pick}
 use Rattle.record_lines.specs.Pieces.{Piece, piece, endOf}
-use Rattle.record_fault.specs.Steps.{highest}
+use Rattle.record_scan.specs.Steps.{highest}
 use Rattle.record_read.specs.Given.{holds, given, byteAt}
 
 or-assoc : (a b c : Bool) → (a || b) || c ≡ a || (b || c)

@@ -8,13 +8,13 @@ use native.Mathlib.Omega.{arith}
 use borrow.Author.Tests.{leb-true, leb-false}
 use lib.Dec.{leb}
 use lib.ListN.{length, getD}
-use Rattle.refusal.specs.Laws.Bools.{either, clash, both}
-use Rattle.refusal.specs.Told.{gives}
+use Rattle.prelude.specs.Laws.Bools.{either, clash, both}
+use Rattle.prelude.specs.Told.{gives}
 use Rattle.blocks.specs.declared.Blocks.{Blocks}
 use Rattle.blocks.specs.Outcome.{toldBy}
 use Rattle.record_lines.specs.Pieces.{Piece, endOf, GivesAt}
-use Rattle.record_fault.specs.Reading.{isNew, readText}
-use Rattle.record_fault.specs.Sound.{Fine, none, more}
+use Rattle.record_scan.specs.Reading.{isNew, readText}
+use Rattle.record_scan.specs.Sound.{Fine, none, more}
 use Rattle.record_read.specs.Given.{byteAt}
 use Rattle.record_read.specs.Laws.GivenLaws.{byte-append, byte-in, byte-before, byte-behind}
 use Rattle.record_read.specs.Laws.Facts.{gives-given}

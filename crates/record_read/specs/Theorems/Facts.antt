@@ -5,13 +5,13 @@ use mathlib.Core.List.{List}
 use Prim.Native.Nat.{ℕ, _≤_}
 use borrow.Author.Tests.{le-leb, leb-true}
 use lib.ListN.{length}
-use Rattle.refusal.specs.Laws.Bools.{unlike}
-use Rattle.refusal.specs.Told.{gives}
+use Rattle.prelude.specs.Laws.Bools.{unlike}
+use Rattle.prelude.specs.Told.{gives}
 use Rattle.blocks.specs.declared.Blocks.{Blocks}
 use Rattle.blocks.specs.Theorems.Exactly.{room-exactly}
 use Rattle.blocks.specs.Outcome.{toldBy}
 use Rattle.record_lines.specs.Pieces.{Piece}
-use Rattle.record_fault.specs.Reading.{Read, sound, faulty}
+use Rattle.record_scan.specs.Reading.{Read, sound, faulty}
 use Rattle.record_read.specs.Runs.{reach, blocksGiven}
 use Rattle.record_read.specs.Outcome.{Lent, bytesFit, blocksFit, toldOf, taken, lentAfter, Reads}
 use Rattle.record_read.specs.Facts.{Good}

@@ -7,8 +7,8 @@ use native.Mathlib.Decide.{decLt}
 use native.Mathlib.Omega.{arith}
 use borrow.Author.Tests.{eqb-true, eqb-false}
 use lib.Dec.{eqb}
-use Rattle.refusal.specs.Laws.Bools.{either, clash}
-use Rattle.refusal.specs.Pick.{pick}
+use Rattle.prelude.specs.Laws.Bools.{either, clash}
+use Rattle.prelude.specs.Pick.{pick}
 use Rattle.blocks.specs.declared.Block.{Block}
 use Rattle.blocks.specs.Walk.{block, endOf}
 use Rattle.record_read.specs.Runs.{inFront, runs}

@@ -1,7 +1,7 @@
 -- `record_reason::address_at`: the line's own address.
 use mathlib.Core.Path.{subst, _∙_}
 use Prim.Native.Nat.{ℕ}
-use Rattle.record_fault.specs.Laws.TrailLaws.{moved}
+use Rattle.record_scan.specs.Laws.TrailLaws.{moved}
 use Rattle.record_reason.proofs.Walks.{says-address}
 use borrow.Author.Needs.{needs}
 use Rattle.record_reason.proofs.address_at.Statement.{statement}

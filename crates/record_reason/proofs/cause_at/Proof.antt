@@ -5,7 +5,7 @@ use Prim.Native.Nat.{ℕ, _≤_, _<_}
 use native.Mathlib.Omega.{arith}
 use lib.ListN.{length}
 use borrow.Author.Tests.{le-leb, lt-leb}
-use Rattle.record_fault.specs.Trail.{trail, lineAt}
+use Rattle.record_scan.specs.Trail.{trail, lineAt}
 use Rattle.record_reason.specs.Reasons.{lineCause}
 use borrow.Author.Needs.{needs}
 use Rattle.record_reason.proofs.cause_at.Statement.{statement}

@@ -1,7 +1,7 @@
 -- `record_reason::reason_of`: the line at fault, and why.
 use mathlib.Core.Path.{sym, ap, _∙_}
 use lib.ListN.{length}
-use Rattle.record_fault.specs.Reading.{readText}
+use Rattle.record_scan.specs.Reading.{readText}
 use Rattle.record_reason.specs.Reasons.{toldOf}
 use Rattle.record_reason.proofs.Walks.{why-good, why-at}
 use borrow.Author.Needs.{needs}

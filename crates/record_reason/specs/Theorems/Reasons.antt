@@ -8,12 +8,12 @@ use native.Mathlib.Omega.{arith}
 use native.Mathlib.Decide.{decLt}
 use lib.Dec.{eqb}
 use borrow.Author.Tests.{eq-eqb, eqb-true, eqb-false}
-use Rattle.refusal.specs.Laws.Bools.{clash}
-use Rattle.refusal.specs.Pick.{pick}
+use Rattle.prelude.specs.Laws.Bools.{clash}
+use Rattle.prelude.specs.Pick.{pick}
 use Rattle.record_lines.specs.Digits.{pairAt, bytesAt}
 use Rattle.record_lines.specs.Sums.{sumOf}
 use Rattle.record_lines.specs.Laws.Sums.{sum-list-more}
-use Rattle.record_fault.specs.Reading.{newPieces, isNew}
+use Rattle.record_scan.specs.Reading.{newPieces, isNew}
 use Rattle.record_reason.specs.Spelling.{causeOf, nothing, sumCause}
 use Rattle.record_reason.specs.Reasons.{itemOf, giver}
 

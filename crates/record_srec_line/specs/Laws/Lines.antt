@@ -6,7 +6,7 @@ use Prim.Native.Nat.{ℕ, _+_, _*_, _%_}
 use borrow.Author.Tests.{ne-eqb, eqb-true}
 use lib.Dec.{leb, eqb}
 use lib.ListN.{length, getD, drop}
-use Rattle.refusal.specs.Laws.Bools.{both}
+use Rattle.prelude.specs.Laws.Bools.{both}
 use Rattle.record_lines.specs.Digits.{allDigits, bytesAt}
 use Rattle.record_lines.specs.Items.{bad}
 use Rattle.record_lines.specs.Sums.{sumOf}

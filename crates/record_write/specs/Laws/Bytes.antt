@@ -9,7 +9,7 @@ use native.Mathlib.Nat.{not-suc-le-zero}
 use native.Mathlib.Omega.{arith}
 use lib.ListN.{length, take, drop, getD, length-take, length-drop}
 use lib.Seq.{getD-take, getD-drop}
-use Rattle.refusal.specs.Laws.Bools.{both}
+use Rattle.prelude.specs.Laws.Bools.{both}
 use Rattle.bitvec.specs.Part.{isPart}
 use Rattle.blocks.specs.declared.Block.{Block}
 use Rattle.record_lines.specs.Pieces.{Piece, piece, GivesAt}

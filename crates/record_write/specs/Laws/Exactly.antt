@@ -7,7 +7,7 @@ use native.Mathlib.Nat.{not-suc-le-zero, le-of-suc-le-suc}
 use native.Mathlib.Omega.{arith}
 use borrow.Author.Tests.{leb-true, le-leb}
 use lib.Dec.{leb}
-use Rattle.refusal.specs.Laws.Bools.{both}
+use Rattle.prelude.specs.Laws.Bools.{both}
 use Rattle.bitvec.specs.Part.{isPart}
 use Rattle.bitvec.specs.Theorems.Part.{isPart-true, isPart-when}
 use Rattle.record_write.specs.Checks.{allParts, allShort}

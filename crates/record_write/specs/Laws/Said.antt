@@ -9,7 +9,7 @@ use borrow.Author.Tests.{eqb-true}
 use lib.Dec.{eqb}
 use lib.ListN.{length}
 use lib.Seq.{take-all}
-use Rattle.refusal.specs.Pick.{pick}
+use Rattle.prelude.specs.Pick.{pick}
 use Rattle.record_lines.specs.Items.{gives}
 use Rattle.record_lines.specs.Pieces.{Piece}
 use Rattle.record_lines.specs.Laws.Spelled.{bytes-none}

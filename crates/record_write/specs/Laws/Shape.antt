@@ -8,7 +8,7 @@ use native.Mathlib.Omega.{arith}
 use lib.Dec.{eqb}
 use lib.ListN.{length, take, drop, length-take, length-drop}
 use lib.Seq.{drop-drop}
-use Rattle.refusal.specs.Pick.{pick}
+use Rattle.prelude.specs.Pick.{pick}
 use Rattle.sort.specs.Agree.{All}
 use Rattle.record_lines.specs.Pieces.{Piece, piece}
 use Rattle.record_lines.specs.Laws.Spelled.{bytes-none}

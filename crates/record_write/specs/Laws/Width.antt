@@ -6,7 +6,7 @@ use Prim.Native.Nat.{ℕ, _+_, _/_, _^_}
 use borrow.Author.Tests.{leb-true}
 use lib.Dec.{leb}
 use lib.ListN.{length}
-use Rattle.refusal.specs.Laws.Bools.{both}
+use Rattle.prelude.specs.Laws.Bools.{both}
 use Rattle.bitvec.specs.Bits.{Bytes}
 use Rattle.sort.specs.Agree.{All}
 use Rattle.blocks.specs.declared.Block.{Block}

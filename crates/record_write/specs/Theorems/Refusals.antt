@@ -2,7 +2,7 @@
 use mathlib.Core.Path.{_≡_}
 use mathlib.Core.List.{List}
 use Prim.Native.Nat.{ℕ}
-use Rattle.refusal.specs.Laws.Pick.{determined}
+use Rattle.prelude.specs.Laws.Pick.{determined}
 use Rattle.record_write.specs.declared.Written.{Written}
 use Rattle.record_write.specs.Hex.{WritesHex}
 use Rattle.record_write.specs.Srec.{WritesSrec}

@@ -7,7 +7,7 @@ use Prim.Native.Nat.{ℕ}
 use borrow.Author.Tests.{eqb-true}
 use lib.Dec.{eqb}
 use lib.ListN.{length}
-use Rattle.refusal.specs.Laws.Bools.{either, both}
+use Rattle.prelude.specs.Laws.Bools.{either, both}
 use Rattle.record_srec_line.specs.ReadBack.{Width, two, four}
 use Rattle.record_write.specs.Checks.{allPlaced, allShort}
 use Rattle.record_write.specs.Cut.{blocksIn}

@@ -2,12 +2,12 @@
 use Prim.Native.Nat.{ℕ}
 use mathlib.Core.Path.{_≡_, refl}
 use native.Mathlib.Omega.{arith}
-use Rattle.refusal.specs.declared.Verdict.{Verdict}
-use Rattle.refusal.specs.declared.Verdict.the-variants.{Accepted, Refused as TurnedAway}
+use Rattle.prelude.specs.declared.Verdict.{Verdict}
+use Rattle.prelude.specs.declared.Verdict.the-variants.{Accepted, Refused as TurnedAway}
 use Rattle.bankdef.specs.Check.{checkOf}
 use Rattle.bankdef.specs.declared.Bankdefs.{Bankdefs}
 use Rattle.resolver.specs.Layout.{unless, layoutOf}
-use Rattle.lists.specs.Lists.{Lists, listsOf}
+use Rattle.nodes.specs.Lists.{Lists, listsOf}
 use Rattle.resolver.specs.Passes.{passAt, resolutionOf}
 use Rattle.resolver.specs.Theorems.Run.{Counted, accepted-passes}
 use Rattle.resolver.specs.declared.Choices.{Choices}

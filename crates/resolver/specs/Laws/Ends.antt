@@ -5,8 +5,8 @@ use mathlib.Core.Bool.{Bool, true, false, not}
 use native.Mathlib.Omega.{arith}
 use lib.Dec.{eqb}
 use borrow.Author.Tests.{eq-eqb, ne-eqb, eqb-true}
-use Rattle.refusal.specs.Laws.Bools.{unlike}
-use Rattle.refusal.specs.declared.Refusal.{Refusal}
+use Rattle.prelude.specs.Laws.Bools.{unlike}
+use Rattle.prelude.specs.declared.Refusal.{Refusal}
 use Rattle.resolver.specs.Laws.Least.{first-at, first-from}
 use Rattle.resolver.specs.Theorems.Least.{K-counts, K-settles}
 use Rattle.resolver.specs.Passes.{unresolved, passK, lastOf, afterK, settledBy}

@@ -5,8 +5,8 @@ use mathlib.Core.Bool.{Bool, true, false, not, _&&_}
 use native.Mathlib.Omega.{arith}
 use lib.Dec.{eqb}
 use borrow.Author.Tests.{eq-eqb, eqb-true}
-use Rattle.refusal.specs.Pick.{pick}
-use Rattle.refusal.specs.Laws.Bools.{both, unlike}
+use Rattle.prelude.specs.Pick.{pick}
+use Rattle.prelude.specs.Laws.Bools.{both, unlike}
 use Rattle.bankdef.specs.declared.Bankdef.{Bankdef}
 use Rattle.iter.specs.Address.{onBoundary}
 use Rattle.iter.specs.declared.Moved.{Moved}

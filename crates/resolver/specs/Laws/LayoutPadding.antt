@@ -4,12 +4,12 @@ use mathlib.Core.Bool.{false}
 use mathlib.Core.List.{[], _∷_}
 use lib.IntN.{pos}
 use lib.ListN.{replicate}
-use Rattle.refusal.specs.declared.Opt.the-variants.{None, Some}
+use Rattle.prelude.specs.declared.Opt.the-variants.{None, Some}
 use Rattle.bankdef.specs.Check.{noBank}
 use Rattle.bankdef.specs.declared.Bankdefs.{Bankdefs}
 use Rattle.iter.specs.Distance.{distanceOf}
 use Rattle.iter.specs.Step.{startOf, seenOf, movedOn, advancedOf, seenSkips, advanceSkips, stepOf}
-use Rattle.lists.specs.Lists.{Lists, lists}
+use Rattle.nodes.specs.Lists.{Lists, lists}
 use Rattle.resolver.specs.Once.{walkTo}
 use Rattle.resolver.specs.Padding.{sumIn, paddingOf}
 use Rattle.resolver.specs.Passes.{program, rowOfPass}

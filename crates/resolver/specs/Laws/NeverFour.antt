@@ -4,11 +4,11 @@ use mathlib.Core.Path.{_≡_, refl, sym, _∙_, ap, subst}
 use mathlib.Core.Bool.{true, false}
 use native.Mathlib.Omega.{arith}
 use lib.ListN.{length, length-take}
-use Rattle.refusal.specs.Refusals.{numberOf}
-use Rattle.refusal.specs.Told.{Told, toldNumber}
-use Rattle.refusal.specs.declared.Refusal.{Refusal}
-use Rattle.refusal.specs.declared.Verdict.the-variants.{Accepted}
-use Rattle.refusal.specs.Laws.Bools.{either, clash}
+use Rattle.prelude.specs.Refusals.{numberOf}
+use Rattle.prelude.specs.Told.{Told, toldNumber}
+use Rattle.prelude.specs.declared.Refusal.{Refusal}
+use Rattle.prelude.specs.declared.Verdict.the-variants.{Accepted}
+use Rattle.prelude.specs.Laws.Bools.{either, clash}
 use Rattle.bankdef.specs.Check.{banksOf, checkOf}
 use Rattle.bankdef.specs.Numbers.{bankFault}
 use Rattle.bankdef.specs.Theorems.Numbers.{fault-anywhere}
@@ -28,8 +28,8 @@ use Rattle.iter.specs.declared.Distance.{Distance}
 use Rattle.iter.specs.declared.Distance.the-variants.{Refused as NoDistance}
 use Rattle.iter.specs.declared.Moved.{Moved}
 use Rattle.iter.specs.declared.Moved.the-variants.{To, Refused as Stopped}
-use Rattle.lists.specs.Kinds.{lastKind}
-use Rattle.lists.specs.declared.Node.{Node}
+use Rattle.nodes.specs.Kinds.{lastKind}
+use Rattle.nodes.specs.declared.Node.{Node}
 use Rattle.iter.specs.declared.Pos.{Pos}
 use Rattle.iter.specs.declared.Skipped.{Skipped}
 use Rattle.iter.specs.declared.Stepped.{Stepped}

@@ -6,7 +6,7 @@ use mathlib.Core.Bool.{Bool}
 use native.Mathlib.Omega.{arith}
 use borrow.Author.Tests.{ne-eqb}
 use Rattle.bankdef.specs.declared.Bankdefs.{Bankdefs}
-use Rattle.lists.specs.Lists.{Lists}
+use Rattle.nodes.specs.Lists.{Lists}
 use Rattle.resolver.specs.Passes.{passAt}
 
 pub repeats : (banks : Bankdefs) (l : Lists) (n : ℕ) (isLast : Bool) → 1 ≤ l .rows → l .rows < n → passAt banks l n isLast ≡ passAt banks l (l .rows + 1) isLast

@@ -7,9 +7,9 @@ use native.Mathlib.Omega.{arith}
 use lib.Dec.{eqb, leb}
 use lib.ListN.{getD, set, replicate, length, length-set}
 use borrow.Author.Tests.{eqb-true, leb-true}
-use Rattle.refusal.specs.Laws.Bools.{either}
-use Rattle.refusal.specs.Limits.{maxBanks}
-use Rattle.refusal.specs.Laws.Pick.{pick-true, pick-false}
+use Rattle.prelude.specs.Laws.Bools.{either}
+use Rattle.prelude.specs.Limits.{maxBanks}
+use Rattle.prelude.specs.Laws.Pick.{pick-true, pick-false}
 use Rattle.bankdef.specs.Check.{noBank}
 use Rattle.bankdef.specs.declared.Bankdef.{Bankdef}
 use Rattle.iter.specs.Crossing.{crossingOf}
@@ -22,12 +22,12 @@ use Rattle.iter.specs.Padding.{lostPart, lostIn, Fits}
 use Rattle.iter.specs.Step.{origin, noLost, startOf, bankAfter, maxSum, sumAfter, kept, stepOf}
 use Rattle.iter.specs.declared.Crossing.{Crossing}
 use Rattle.iter.specs.declared.Lost.{Lost}
-use Rattle.lists.specs.declared.Node.{Node}
+use Rattle.nodes.specs.declared.Node.{Node}
 use Rattle.iter.specs.declared.Pos.{Pos}
 use Rattle.iter.specs.declared.Stepped.{Stepped}
 use Rattle.iter.specs.declared.Walk.{Walk}
 use Rattle.resolver.specs.Theorems.Listed.{listed-bank}
-use Rattle.lists.specs.Lists.{Row}
+use Rattle.nodes.specs.Lists.{Row}
 use Rattle.resolver.specs.Once.{bankRecord, bankOf, Program, node, stepAt, walkTo}
 use Rattle.resolver.specs.Switches.{Switches}
 use Rattle.resolver.specs.Stands.{Stands, bothStart}

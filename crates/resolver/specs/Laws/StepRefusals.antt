@@ -6,12 +6,12 @@ use mathlib.Core.Logic.{_⊎_, inl, inr}
 use native.Mathlib.Omega.{arith}
 use lib.Dec.{leb}
 use lib.ListN.{getD}
-use Rattle.refusal.specs.Limits.{maxPosition}
-use Rattle.refusal.specs.Pick.{pick}
-use Rattle.refusal.specs.declared.Refusal.{Refusal}
-use Rattle.refusal.specs.declared.Refusal.the-variants.{Malformed, PositionPast}
-use Rattle.refusal.specs.declared.Opt.{Opt}
-use Rattle.refusal.specs.declared.Opt.the-variants.{None, Some}
+use Rattle.prelude.specs.Limits.{maxPosition}
+use Rattle.prelude.specs.Pick.{pick}
+use Rattle.prelude.specs.declared.Refusal.{Refusal}
+use Rattle.prelude.specs.declared.Refusal.the-variants.{Malformed, PositionPast}
+use Rattle.prelude.specs.declared.Opt.{Opt}
+use Rattle.prelude.specs.declared.Opt.the-variants.{None, Some}
 use Rattle.bankdef.specs.declared.Bankdef.{Bankdef}
 use Rattle.iter.specs.Distance.{tellable, addressInBits, distanceTo, skipsOf, distanceOf}
 use Rattle.iter.specs.Step.{origin, movedBy, movedByDistance, alignedTo, outermostSymbol, labelAligned, seenOf, badState, movedOn, advancedOf}
@@ -20,9 +20,9 @@ use Rattle.iter.specs.declared.Distance.{Distance}
 use Rattle.iter.specs.declared.Distance.the-variants.{Skips, Refused as NoDistance}
 use Rattle.iter.specs.declared.Moved.{Moved}
 use Rattle.iter.specs.declared.Moved.the-variants.{To, Refused as Stopped}
-use Rattle.lists.specs.Kinds.{doesOf}
-use Rattle.lists.specs.Laws.Kinds.{in-each}
-use Rattle.lists.specs.declared.Node.{Node}
+use Rattle.nodes.specs.Kinds.{doesOf}
+use Rattle.nodes.specs.Laws.Kinds.{in-each}
+use Rattle.nodes.specs.declared.Node.{Node}
 use Rattle.iter.specs.declared.Pos.{Pos}
 use Rattle.iter.specs.declared.Skipped.{Skipped}
 use Rattle.iter.specs.declared.Stepped.{Stepped}

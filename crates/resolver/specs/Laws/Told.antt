@@ -2,10 +2,10 @@
 use Prim.Native.Nat.{ℕ}
 use mathlib.Core.Path.{_≡_, ap}
 use native.Mathlib.Omega.{arith}
-use Rattle.refusal.specs.Told.{Told, refuses, toldRefusal}
-use Rattle.refusal.specs.Theorems.Told.{refusal-by-figures}
-use Rattle.refusal.specs.declared.Place.{Place}
-use Rattle.refusal.specs.declared.Refusal.{Refusal}
+use Rattle.prelude.specs.Told.{Told, refuses, toldRefusal}
+use Rattle.prelude.specs.Theorems.Told.{refusal-by-figures}
+use Rattle.prelude.specs.declared.Place.{Place}
+use Rattle.prelude.specs.declared.Refusal.{Refusal}
 use Rattle.resolver.specs.declared.Settled.{Settled}
 use Rattle.resolver.specs.declared.Settled.the-variants.{At, Refused}
 use Rattle.resolver.specs.Told.{toldSettled}

@@ -8,24 +8,24 @@ use native.Mathlib.Omega.{arith}
 use lib.Dec.{eqb, leb, ltb}
 use lib.ListN.{getD, length}
 use borrow.Author.Tests.{eq-eqb, eqb-true, eqb-false, leb-true, leb-false, lt-ltb, ltb-false, le-ltb}
-use Rattle.refusal.specs.declared.Verdict.{Verdict}
-use Rattle.refusal.specs.declared.Verdict.the-variants.{Accepted, Refused}
-use Rattle.refusal.specs.Laws.Bools.{either, neither}
+use Rattle.prelude.specs.declared.Verdict.{Verdict}
+use Rattle.prelude.specs.declared.Verdict.the-variants.{Accepted, Refused}
+use Rattle.prelude.specs.Laws.Bools.{either, neither}
 use Rattle.bankdef.specs.Check.{checkOf}
 use Rattle.bankdef.specs.declared.Bankdefs.{Bankdefs}
 use Rattle.iter.specs.declared.Moved.{Moved}
 use Rattle.iter.specs.declared.Moved.the-variants.{To, Refused as Stopped}
-use Rattle.lists.specs.Kinds.{isItem, ReadsNumber, lastKind, isUnknown}
-use Rattle.lists.specs.declared.Node.{Node}
+use Rattle.nodes.specs.Kinds.{isItem, ReadsNumber, lastKind, isUnknown}
+use Rattle.nodes.specs.declared.Node.{Node}
 use Rattle.iter.specs.declared.Stepped.{Stepped}
 use Rattle.iter.specs.declared.Walk.{Walk}
 use Rattle.resolver.specs.Theorems.FirstRow.{state-of-its-row, number-of-its-row, declared-number-of-first-row}
 use Rattle.resolver.specs.Layout.{unless, layoutOf}
 use Rattle.resolver.specs.Laws.Least.{or-past}
-use Rattle.lists.specs.Lists.{Lists, lists, rowAt, pastEnd, rowFault, headFault, anyRowFault, nodeFault, nodesTo, listsOf}
+use Rattle.nodes.specs.Lists.{Lists, lists, rowAt, pastEnd, rowFault, headFault, anyRowFault, nodeFault, nodesTo, listsOf}
 use Rattle.resolver.specs.Once.{Going, on, off, node, bankOf, stepAt, walkTo, labelState, stateOf, met, meets, passTo, closed}
 use Rattle.resolver.specs.Passes.{program, passAt, settledBy, resolutionOf}
-use Rattle.lists.specs.Theorems.Sound.{accepted-node, accepted-lists}
+use Rattle.nodes.specs.Theorems.Sound.{accepted-node, accepted-lists}
 use Rattle.resolver.specs.UnreadStep.{SameRead}
 use Rattle.resolver.specs.Theorems.UnreadStep.{bank-same, step-same}
 use Rattle.resolver.specs.declared.Choices.{Choices}

@@ -2,8 +2,8 @@
 use Prim.Native.Nat.{ℕ}
 use mathlib.Core.Path.{_≡_}
 use mathlib.Core.Bool.{Bool, true, false}
-use Rattle.refusal.specs.Pick.{pick}
-use Rattle.refusal.specs.declared.Refusal.{Refusal}
+use Rattle.prelude.specs.Pick.{pick}
+use Rattle.prelude.specs.declared.Refusal.{Refusal}
 use Rattle.iter.specs.declared.Walk.{Walk}
 use Rattle.resolver.specs.Once.{on, goesOn}
 use Rattle.resolver.specs.declared.Pass.{Pass}

@@ -6,7 +6,7 @@ use native.Mathlib.Numerals.{add-one}
 use native.Mathlib.Omega.{arith}
 use lib.ListN.{getD, set, length, length-set}
 use lib.Seq.{set-getD}
-use Rattle.refusal.specs.Limits.{maxBanks}
+use Rattle.prelude.specs.Limits.{maxBanks}
 use Rattle.bankdef.specs.declared.Bankdef.{Bankdef}
 use Rattle.iter.specs.Crossing.{crossingOf}
 use Rattle.iter.specs.Laws.Crossing.{any-default}
@@ -16,11 +16,11 @@ use Rattle.iter.specs.Step.{origin, noLost, startOf, bankAfter, lostAfter, kept
 use Rattle.iter.specs.Theorems.Crossing.{crossing-kept, none-lost}
 use Rattle.iter.specs.declared.Crossing.{Crossing}
 use Rattle.iter.specs.declared.Lost.{Lost}
-use Rattle.lists.specs.declared.Node.{Node}
+use Rattle.nodes.specs.declared.Node.{Node}
 use Rattle.iter.specs.declared.Pos.{Pos}
 use Rattle.iter.specs.declared.Skipped.{Skipped}
 use Rattle.iter.specs.declared.Walk.{Walk}
-use Rattle.lists.specs.Lists.{Row}
+use Rattle.nodes.specs.Lists.{Row}
 use Rattle.resolver.specs.Laws.Stands as standing
 use Rattle.resolver.specs.Once.{Program, node, bankOf, stepAt, walkTo}
 use Rattle.resolver.specs.Stands.{Stands}

@@ -5,7 +5,7 @@ use native.Mathlib.Omega.{arith}
 use lib.ListN.{getD, length}
 use borrow.Author.Tests.{eq-eqb, ne-eqb}
 use Rattle.bankdef.specs.declared.Bankdefs.{Bankdefs}
-use Rattle.lists.specs.Lists.{Lists, rowAt}
+use Rattle.nodes.specs.Lists.{Lists, rowAt}
 use Rattle.resolver.specs.Once.{node}
 use Rattle.resolver.specs.Passes.{program}
 use Rattle.resolver.specs.Laws.FirstRow.{cell}

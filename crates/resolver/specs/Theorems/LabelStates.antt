@@ -7,20 +7,20 @@ use native.Mathlib.Omega.{arith}
 use lib.Dec.{eqb}
 use lib.ListN.{getD, length}
 use borrow.Author.Tests.{ne-eqb}
-use Rattle.refusal.specs.Pick.{pick}
-use Rattle.refusal.specs.Laws.Bools.{both, clash}
+use Rattle.prelude.specs.Pick.{pick}
+use Rattle.prelude.specs.Laws.Bools.{both, clash}
 use Rattle.bankdef.specs.declared.Bankdef.{Bankdef}
 use Rattle.bankdef.specs.declared.Bankdefs.{Bankdefs}
 use Rattle.iter.specs.Address.{onBoundary}
 use Rattle.iter.specs.Step.{bankAfter, startOf, stepOf}
 use Rattle.iter.specs.Laws.StepCases.{step-cases}
 use Rattle.iter.specs.declared.Moved.the-variants.{To}
-use Rattle.lists.specs.declared.Node.{Node}
+use Rattle.nodes.specs.declared.Node.{Node}
 use Rattle.iter.specs.declared.Pos.{Pos}
 use Rattle.iter.specs.declared.Stepped.{Stepped}
 use Rattle.iter.specs.declared.Walk.{Walk}
 use Rattle.resolver.specs.Ends.{Runs, after, atLimit}
-use Rattle.lists.specs.Lists.{Lists, Row}
+use Rattle.nodes.specs.Lists.{Lists, Row}
 use Rattle.resolver.specs.NodeOrder.{defAt, GoesPast}
 use Rattle.resolver.specs.Theorems.NodeOrder.{ran-to-end}
 use Rattle.resolver.specs.Laws.NodeOrder.{seen-apart}

@@ -9,7 +9,7 @@ use Rattle.iter.specs.declared.Moved.the-variants.{To}
 use Rattle.iter.specs.declared.Pos.{Pos}
 use Rattle.resolver.specs.Laws.Answer.{accepted-layout}
 use Rattle.resolver.specs.Layout.{layoutOf, Checked}
-use Rattle.lists.specs.Lists.{Lists}
+use Rattle.nodes.specs.Lists.{Lists}
 use Rattle.resolver.specs.NodeOrder.{seenAt, GoesPast}
 use Rattle.resolver.specs.Theorems.NodeOrder.{ran-to-end}
 use Rattle.resolver.specs.Passes.{program, rowOfPass}

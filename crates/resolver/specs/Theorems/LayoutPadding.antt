@@ -3,7 +3,7 @@ use Prim.Native.Nat.{ℕ, _+_, _*_, _<_, _≤_}
 use mathlib.Core.Path.{_≡_, refl, ap}
 use native.Mathlib.Omega.{arith}
 use lib.ListN.{getD, length}
-use Rattle.refusal.specs.Limits.{maxNodes, maxPosition}
+use Rattle.prelude.specs.Limits.{maxNodes, maxPosition}
 use Rattle.bankdef.specs.declared.Bankdefs.{Bankdefs}
 use Rattle.iter.specs.Distance.{distanceOf}
 use Rattle.iter.specs.Padding.{Part, lostPart}
@@ -13,14 +13,14 @@ use Rattle.resolver.specs.KnownInPass.{bankAt}
 use Rattle.resolver.specs.LastPass.{lastRow}
 use Rattle.resolver.specs.Theorems.LastPass.{accepted-checked, sees-in-last}
 use Rattle.resolver.specs.Layout.{withLimit, layoutOf}
-use Rattle.lists.specs.Lists.{Lists, Row, lists}
+use Rattle.nodes.specs.Lists.{Lists, Row, lists}
 use Rattle.resolver.specs.Once.{Program, walkTo}
 use Rattle.resolver.specs.Padding.{sumIn, paddingOf}
 use Rattle.resolver.specs.Laws.Padding.{sizesTo}
 use Rattle.resolver.specs.Theorems.Padding.{padding-bounded, walk-carries-padding, ends-at-sizes-and-padding}
 use Rattle.resolver.specs.Passes.{program, rowOfPass}
 use Rattle.resolver.specs.Theorems.RaisedLimit.{same-row-above}
-use Rattle.lists.specs.Theorems.Sound.{accepted-lists}
+use Rattle.nodes.specs.Theorems.Sound.{accepted-lists}
 use Rattle.resolver.specs.declared.Choices.{Choices}
 use Rattle.resolver.specs.declared.Settled.the-variants.{At}
 use Rattle.resolver.specs.LayoutPadding.{backAgain}

@@ -5,14 +5,14 @@ use mathlib.Core.Bool.{Bool, true, false}
 use mathlib.Core.Logic.{_↔_}
 use lib.ListN.{length}
 use borrow.Author.Tests.{leb-true, leb-false, le-leb, lt-leb}
-use Rattle.refusal.specs.Pick.{pick}
-use Rattle.refusal.specs.Refusals.{placeOf}
-use Rattle.refusal.specs.declared.Place.the-variants.{One}
-use Rattle.refusal.specs.declared.Refusal.{Refusal}
-use Rattle.refusal.specs.declared.Refusal.the-variants.{Malformed}
-use Rattle.refusal.specs.declared.Verdict.the-variants.{Refused}
-use Rattle.lists.specs.Lists.{Lists, nodeCountSound, rowCountSound, knownFill, nodesTo, listsOf}
-use Rattle.lists.specs.Theorems.Sound.{lowest-node, lowest-refused}
+use Rattle.prelude.specs.Pick.{pick}
+use Rattle.prelude.specs.Refusals.{placeOf}
+use Rattle.prelude.specs.declared.Place.the-variants.{One}
+use Rattle.prelude.specs.declared.Refusal.{Refusal}
+use Rattle.prelude.specs.declared.Refusal.the-variants.{Malformed}
+use Rattle.prelude.specs.declared.Verdict.the-variants.{Refused}
+use Rattle.nodes.specs.Lists.{Lists, nodeCountSound, rowCountSound, knownFill, nodesTo, listsOf}
+use Rattle.nodes.specs.Theorems.Sound.{lowest-node, lowest-refused}
 use Rattle.resolver.specs.ListsExactly.{MalformedAt, choice, node, nodeCount, rowCount}
 
 module _ (banks : ℕ) (l : Lists) (fill : ℕ) where

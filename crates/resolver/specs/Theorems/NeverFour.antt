@@ -6,22 +6,22 @@ use mathlib.Core.Bool.{Bool, _&&_}
 use lib.Dec.{eqb, leb, ltb}
 use lib.ListN.{getD, length}
 use borrow.Author.Tests.{ltb-false}
-use Rattle.refusal.specs.Refusals.{numberOf}
-use Rattle.refusal.specs.declared.Refusal.{Refusal}
-use Rattle.refusal.specs.Laws.Bools.{neither}
+use Rattle.prelude.specs.Refusals.{numberOf}
+use Rattle.prelude.specs.declared.Refusal.{Refusal}
+use Rattle.prelude.specs.Laws.Bools.{neither}
 use Rattle.bankdef.specs.declared.Bankdefs.{Bankdefs}
 use Rattle.iter.specs.Step.{bankAfter}
 use Rattle.iter.specs.declared.Moved.the-variants.{Refused as Stopped}
 use Rattle.resolver.specs.Layout.{Checked}
-use Rattle.lists.specs.Kinds.{lastKind, isUnknown}
-use Rattle.lists.specs.Lists.{Lists, nodeOf, headFault, anyRowFault}
+use Rattle.nodes.specs.Kinds.{lastKind, isUnknown}
+use Rattle.nodes.specs.Lists.{Lists, nodeOf, headFault, anyRowFault}
 use Rattle.resolver.specs.NodeOrder.{seenAt, defAt, GoesPast}
 use Rattle.resolver.specs.Once.{walkTo}
 use Rattle.resolver.specs.PassStates.{nodeIn}
 use Rattle.resolver.specs.Theorems.PassStates.{sound-state-of-row}
 use Rattle.resolver.specs.Passes.{program, rowOfPass}
 use Rattle.resolver.specs.Theorems.PositionPast.{stands-listed, sound-numbers}
-use Rattle.lists.specs.Theorems.Sound.{accepted-node, accepted-lists}
+use Rattle.nodes.specs.Theorems.Sound.{accepted-node, accepted-lists}
 use Rattle.resolver.specs.Laws.NeverFour.{listed-tells, step-not-four}
 
 module _ (banks : Bankdefs) (l : Lists) {fill : ℕ} (c : Checked banks l fill) where

@@ -8,16 +8,16 @@ use native.Mathlib.Omega.{arith}
 use lib.Dec.{eqb}
 use lib.ListN.{getD, length}
 use borrow.Author.Tests.{eq-eqb, eqb-true, eqb-false, not-true}
-use Rattle.refusal.specs.Pick.{pick}
-use Rattle.refusal.specs.declared.Refusal.{Refusal}
-use Rattle.refusal.specs.declared.Refusal.the-variants.{LabelOffBoundary}
-use Rattle.refusal.specs.Laws.Bools.{clash, both}
+use Rattle.prelude.specs.Pick.{pick}
+use Rattle.prelude.specs.declared.Refusal.{Refusal}
+use Rattle.prelude.specs.declared.Refusal.the-variants.{LabelOffBoundary}
+use Rattle.prelude.specs.Laws.Bools.{clash, both}
 use Rattle.iter.specs.Address.{onBoundary}
 use Rattle.iter.specs.declared.Moved.{Moved}
 use Rattle.iter.specs.declared.Moved.the-variants.{To, Refused as Stopped}
 use Rattle.iter.specs.declared.Pos.{Pos}
 use Rattle.resolver.specs.Laws.Least.{or-past}
-use Rattle.lists.specs.Lists.{Row}
+use Rattle.nodes.specs.Lists.{Row}
 use Rattle.resolver.specs.Once.{Program, Going, on, off, node, stepAt, walkTo, labelState}
 use Rattle.resolver.specs.Once.{stateOf, offBoundary, met, goesOn, meets, passTo, passOf}
 use Rattle.resolver.specs.declared.Pass.the-variants.{State, Refused}

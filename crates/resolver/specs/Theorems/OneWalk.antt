@@ -7,10 +7,10 @@ use native.Mathlib.Omega.{arith}
 use lib.Dec.{eqb, leb, ltb}
 use lib.ListN.{length}
 use borrow.Author.Tests.{eqb-true, eqb-false, ltb-false, lt-ltb, eq-eqb}
-use Rattle.refusal.specs.Pick.{pick}
-use Rattle.refusal.specs.Limits.{maxBanks}
-use Rattle.refusal.specs.Laws.Bools.{either, neither}
-use Rattle.refusal.specs.declared.Refusal.{Refusal}
+use Rattle.prelude.specs.Pick.{pick}
+use Rattle.prelude.specs.Limits.{maxBanks}
+use Rattle.prelude.specs.Laws.Bools.{either, neither}
+use Rattle.prelude.specs.declared.Refusal.{Refusal}
 use Rattle.bankdef.specs.declared.Bankdef.{Bankdef}
 use Rattle.bankdef.specs.declared.Bankdefs.{Bankdefs}
 use Rattle.iter.specs.Address.{onBoundary}
@@ -18,9 +18,9 @@ use Rattle.iter.specs.Step.{bankAfter, badState}
 use Rattle.iter.specs.Theorems.StepFacts.{made-sound}
 use Rattle.iter.specs.declared.Moved.{Moved}
 use Rattle.iter.specs.declared.Moved.the-variants.{To}
-use Rattle.lists.specs.declared.Node.{Node}
+use Rattle.nodes.specs.declared.Node.{Node}
 use Rattle.iter.specs.declared.Pos.{Pos}
-use Rattle.lists.specs.Lists.{Lists, Row}
+use Rattle.nodes.specs.Lists.{Lists, Row}
 use Rattle.resolver.specs.Laws.LabelStates.{settled-told, resolved-of}
 use Rattle.resolver.specs.Laws.PassStates.{label-two, state-two, stood}
 use Rattle.resolver.specs.NodeOrder.{GoesPast, defAt, seenAt}

@@ -4,14 +4,14 @@ use mathlib.Core.Path.{_≡_, refl, sym, _∙_, ap}
 use native.Mathlib.Omega.{arith}
 use lib.Dec.{eqb}
 use lib.ListN.{getD, length}
-use Rattle.refusal.specs.Limits.{maxBanks, maxNodes, maxPosition}
-use Rattle.refusal.specs.Pick.{pick}
+use Rattle.prelude.specs.Limits.{maxBanks, maxNodes, maxPosition}
+use Rattle.prelude.specs.Pick.{pick}
 use Rattle.iter.specs.Padding.{Part, lostPart, lostIn}
 use Rattle.iter.specs.Theorems.Padding.{starts-lossless}
 use Rattle.iter.specs.Step.{origin, noLost, startOf}
 use Rattle.iter.specs.Theorems.StepFacts.{count-kept}
 use Rattle.resolver.specs.KnownInPass.{bankAt}
-use Rattle.lists.specs.Lists.{Row}
+use Rattle.nodes.specs.Lists.{Row}
 use Rattle.resolver.specs.NodeOrder.{defAt}
 use Rattle.resolver.specs.Once.{Program, node, walkTo}
 use Rattle.resolver.specs.Laws.Padding.{Walks, lost-kept, origins, padding-part, partAt, pick-most, pick-sum, same-lost, sizeAt, sizesTo}

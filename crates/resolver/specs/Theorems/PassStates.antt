@@ -7,17 +7,17 @@ use native.Mathlib.Omega.{arith}
 use lib.Dec.{eqb, ltb}
 use lib.ListN.{length}
 use borrow.Author.Tests.{lt-ltb, ltb-false}
-use Rattle.refusal.specs.declared.Verdict.the-variants.{Accepted}
-use Rattle.refusal.specs.Laws.Bools.{neither}
+use Rattle.prelude.specs.declared.Verdict.the-variants.{Accepted}
+use Rattle.prelude.specs.Laws.Bools.{neither}
 use Rattle.bankdef.specs.declared.Bankdefs.{Bankdefs}
 use Rattle.iter.specs.declared.Moved.{Moved}
 use Rattle.iter.specs.declared.Moved.the-variants.{To, Refused as Stopped}
-use Rattle.lists.specs.Kinds.{isItem}
-use Rattle.lists.specs.declared.Node.{Node}
-use Rattle.lists.specs.Lists.{Lists, pastEnd, rowFault, listsOf}
+use Rattle.nodes.specs.Kinds.{isItem}
+use Rattle.nodes.specs.declared.Node.{Node}
+use Rattle.nodes.specs.Lists.{Lists, pastEnd, rowFault, listsOf}
 use Rattle.resolver.specs.Once.{labelState, passTo}
 use Rattle.resolver.specs.Passes.{program, rowOfPass, passAt}
-use Rattle.lists.specs.Theorems.Sound.{accepted-row, accepted-lists}
+use Rattle.nodes.specs.Theorems.Sound.{accepted-row, accepted-lists}
 use Rattle.resolver.specs.Walked.{stateSeen}
 use Rattle.resolver.specs.Theorems.Walked.{Largest, largest}
 use Rattle.resolver.specs.declared.Pass.the-variants.{State}

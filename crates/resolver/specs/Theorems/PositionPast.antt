@@ -7,25 +7,25 @@ use native.Mathlib.Omega.{arith}
 use lib.Dec.{eqb, leb, ltb}
 use lib.ListN.{getD, length}
 use borrow.Author.Tests.{eq-eqb, leb-false, lt-leb, eqb-true, le-ltb, leb-true}
-use Rattle.refusal.specs.Limits.{maxBanks}
-use Rattle.refusal.specs.declared.Refusal.the-variants.{PositionPast}
-use Rattle.refusal.specs.Laws.Bools.{either, neither}
+use Rattle.prelude.specs.Limits.{maxBanks}
+use Rattle.prelude.specs.declared.Refusal.the-variants.{PositionPast}
+use Rattle.prelude.specs.Laws.Bools.{either, neither}
 use Rattle.bankdef.specs.Theorems.Refused.{accepted}
 use Rattle.bankdef.specs.declared.Bankdefs.{Bankdefs}
 use Rattle.iter.specs.Laws.Advance.{outside}
 use Rattle.iter.specs.Step.{badState, bankAfter, malformed}
 use Rattle.iter.specs.declared.Moved.the-variants.{Refused as Stopped}
-use Rattle.lists.specs.Kinds.{isUnknown}
-use Rattle.lists.specs.declared.Node.{Node}
+use Rattle.nodes.specs.Kinds.{isUnknown}
+use Rattle.nodes.specs.declared.Node.{Node}
 use Rattle.resolver.specs.Theorems.LabelStates.{switchedTo, bank-by-switches}
 use Rattle.resolver.specs.Layout.{Checked}
-use Rattle.lists.specs.Lists.{Lists, nodeOf, headFault, anyRowFault}
+use Rattle.nodes.specs.Lists.{Lists, nodeOf, headFault, anyRowFault}
 use Rattle.resolver.specs.NodeOrder.{seenAt, defAt, GoesPast}
 use Rattle.resolver.specs.Once.{walkTo}
 use Rattle.resolver.specs.PassStates.{nodeIn}
 use Rattle.resolver.specs.Theorems.PassStates.{sound-state-of-row}
 use Rattle.resolver.specs.Passes.{program, rowOfPass}
-use Rattle.lists.specs.Theorems.Sound.{accepted-node, accepted-lists}
+use Rattle.nodes.specs.Theorems.Sound.{accepted-node, accepted-lists}
 use Rattle.resolver.specs.Laws.PositionPast.{step-five-only, step-five-when}
 use Rattle.resolver.specs.PositionPast.{WouldPass}
 

@@ -2,7 +2,7 @@
 use Prim.Native.Nat.{ℕ, _<_}
 use mathlib.Core.Path.{_≡_, refl, sym, ap, _∙_}
 use mathlib.Core.List.{[], _∷_}
-use Rattle.refusal.specs.declared.Refusal.the-variants.{Unresolved}
+use Rattle.prelude.specs.declared.Refusal.the-variants.{Unresolved}
 use Rattle.bankdef.specs.Check.{firstPair}
 use Rattle.bankdef.specs.Search.{firstWhere}
 use Rattle.bankdef.specs.declared.Bankdefs.{Bankdefs}
@@ -11,7 +11,7 @@ use Rattle.resolver.specs.Laws.Answer.{accepted-layout, layout-passes}
 use Rattle.resolver.specs.Cases.{oneBank, settledAt}
 use Rattle.resolver.specs.Laws.Ends.{settled-below}
 use Rattle.resolver.specs.Layout.{byDefault, withLimit, layoutOf}
-use Rattle.lists.specs.Lists.{Lists, nodesTo, anyRowFault, listsOf}
+use Rattle.nodes.specs.Lists.{Lists, nodesTo, anyRowFault, listsOf}
 use Rattle.resolver.specs.Once.{walkTo, passTo}
 use Rattle.resolver.specs.Passes.{passAt, rowOfPass, first, settledBy}
 use Rattle.resolver.specs.declared.Choices.{Choices}

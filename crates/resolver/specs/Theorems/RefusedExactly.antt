@@ -9,17 +9,17 @@ use native.Mathlib.Omega.{arith}
 use lib.Dec.{eqb}
 use lib.ListN.{length}
 use borrow.Author.Tests.{eqb-true, eqb-false, lt-ltb}
-use Rattle.refusal.specs.Laws.Bools.{unlike}
-use Rattle.refusal.specs.Pick.{pick}
-use Rattle.refusal.specs.Refusals.{numberOf, placeOf}
-use Rattle.refusal.specs.Told.{Told, gives, refuses}
-use Rattle.refusal.specs.Theorems.Told.{six-never}
-use Rattle.refusal.specs.declared.Place.{Place}
-use Rattle.refusal.specs.declared.Place.the-variants.{One}
-use Rattle.refusal.specs.declared.Refusal.{Refusal}
-use Rattle.refusal.specs.declared.Refusal.the-variants.{Malformed, PositionPast, LabelOffBoundary, Unresolved}
-use Rattle.refusal.specs.declared.Verdict.{Verdict}
-use Rattle.refusal.specs.declared.Verdict.the-variants.{Accepted, Refused as TurnedAway}
+use Rattle.prelude.specs.Laws.Bools.{unlike}
+use Rattle.prelude.specs.Pick.{pick}
+use Rattle.prelude.specs.Refusals.{numberOf, placeOf}
+use Rattle.prelude.specs.Told.{Told, gives, refuses}
+use Rattle.prelude.specs.Theorems.Told.{six-never}
+use Rattle.prelude.specs.declared.Place.{Place}
+use Rattle.prelude.specs.declared.Place.the-variants.{One}
+use Rattle.prelude.specs.declared.Refusal.{Refusal}
+use Rattle.prelude.specs.declared.Refusal.the-variants.{Malformed, PositionPast, LabelOffBoundary, Unresolved}
+use Rattle.prelude.specs.declared.Verdict.{Verdict}
+use Rattle.prelude.specs.declared.Verdict.the-variants.{Accepted, Refused as TurnedAway}
 use Rattle.bankdef.specs.Check.{checkOf}
 use Rattle.bankdef.specs.Refused.{count}
 use Rattle.bankdef.specs.Theorems.Refused.{decided}
@@ -35,7 +35,7 @@ use Rattle.resolver.specs.Theorems.NeverFour.{never-four}
 use Rattle.resolver.specs.Run.{Settles}
 use Rattle.resolver.specs.Theorems.Run.{at-zero}
 use Rattle.resolver.specs.Theorems.PositionPast.{five-met-exactly}
-use Rattle.lists.specs.Lists.{Lists, listsOf}
+use Rattle.nodes.specs.Lists.{Lists, listsOf}
 use Rattle.resolver.specs.NodeOrder.{seenAt, OffBoundary, GoesPast}
 use Rattle.resolver.specs.Theorems.NodeOrder.{MeetsFirst, first-met, met-first, ran-to-end}
 use Rattle.resolver.specs.Passes.{program, rowOfPass, passAt, unresolved, lastOf, settledBy, resolutionOf}

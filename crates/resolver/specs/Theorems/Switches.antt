@@ -7,16 +7,16 @@ use native.Mathlib.Omega.{arith}
 use lib.Dec.{eqb, ltb, leb}
 use lib.ListN.{getD, length, List·getD-eq-default}
 use borrow.Author.Tests.{leb-false, eq-eqb}
-use Rattle.refusal.specs.Laws.Bools.{neither}
-use Rattle.refusal.specs.declared.Verdict.{Verdict}
-use Rattle.refusal.specs.declared.Verdict.the-variants.{Accepted}
+use Rattle.prelude.specs.Laws.Bools.{neither}
+use Rattle.prelude.specs.declared.Verdict.{Verdict}
+use Rattle.prelude.specs.declared.Verdict.the-variants.{Accepted}
 use Rattle.bankdef.specs.Check.{checkOf}
 use Rattle.bankdef.specs.Theorems.Refused.{accepted}
 use Rattle.bankdef.specs.declared.Bankdefs.{Bankdefs}
 use Rattle.resolver.specs.Laws.Least.{or-past}
-use Rattle.lists.specs.Kinds.{isUnknown}
-use Rattle.lists.specs.Lists.{Lists, nodeOf, headFault, anyRowFault, listsOf}
-use Rattle.lists.specs.Theorems.Sound.{accepted-node, accepted-lists}
+use Rattle.nodes.specs.Kinds.{isUnknown}
+use Rattle.nodes.specs.Lists.{Lists, nodeOf, headFault, anyRowFault, listsOf}
+use Rattle.nodes.specs.Theorems.Sound.{accepted-node, accepted-lists}
 use Rattle.resolver.specs.Switches.{Switches}
 
 module _ (banks : Bankdefs) (l : Lists) (fill : ℕ) where

@@ -5,14 +5,14 @@ use mathlib.Core.Bool.{Bool}
 use mathlib.Core.Logic.{_⊎_, inl, inr, ⊎-elim}
 use native.Mathlib.Nat.{eq-or-lt-of-le, le-of-suc-le-suc}
 use native.Mathlib.Omega.{arith}
-use Rattle.refusal.specs.declared.Refusal.the-variants.{LabelOffBoundary}
+use Rattle.prelude.specs.declared.Refusal.the-variants.{LabelOffBoundary}
 use Rattle.bankdef.specs.declared.Bankdef.{Bankdef}
 use Rattle.iter.specs.declared.Moved.{Moved}
 use Rattle.iter.specs.declared.Moved.the-variants.{To, Refused as Stopped}
-use Rattle.lists.specs.declared.Node.{Node}
+use Rattle.nodes.specs.declared.Node.{Node}
 use Rattle.iter.specs.declared.Walk.{Walk}
 use Rattle.resolver.specs.Laws.Least.{or-past}
-use Rattle.lists.specs.Lists.{Row}
+use Rattle.nodes.specs.Lists.{Row}
 use Rattle.resolver.specs.Once.{Program, Going, on, off, node, bankOf, stepAt, walkTo, labelState, stateOf, offBoundary, met, meets, passTo}
 use Rattle.resolver.specs.declared.Pass.the-variants.{State}
 use Rattle.resolver.specs.Laws.Walked.{goes-walk, taken-state}

@@ -12,7 +12,7 @@ use Rattle.overlap_checker.specs.Marks.{countBelow, crossesAny, lowestInside}
 use Rattle.overlap_checker.specs.State.{meets, tries, namedIn, keeping, after}
 use Rattle.overlap_checker.specs.Folds.{stateAfter}
 use Rattle.resolver.specs.Layout.{layoutOf}
-use Rattle.lists.specs.Lists.{listsOf, nodesTo}
+use Rattle.nodes.specs.Lists.{listsOf, nodesTo}
 use Rattle.resolver.specs.Once.{passTo}
 use Rattle.resolver.specs.Passes.{first, settledBy}
 use Rattle.bitvec.specs.Bits.{bitAt}

@@ -4,11 +4,11 @@ use mathlib.Core.Path.{_≡_, refl, sym, ap, subst}
 use mathlib.Core.List.{_∷_}
 use native.Mathlib.Omega.{arith}
 use lib.ListN.{getD, replicate}
-use Rattle.refusal.specs.Told.{Told, toldNumber}
-use Rattle.refusal.specs.declared.Refusal.{Refusal}
-use Rattle.refusal.specs.declared.Refusal.the-variants.{BankCount, BankNumber, BanksOverlap, Malformed}
-use Rattle.refusal.specs.declared.Refusal.the-variants.{PositionPast, LabelOffBoundary, Unresolved, DefaultBank, PastBank}
-use Rattle.refusal.specs.declared.Refusal.the-variants.{NoOutput, Overlap, StoreFull, TooShort, BadStore, BadPart, PartlyCovered, FillBitDropped, OffProfile}
+use Rattle.prelude.specs.Told.{Told, toldNumber}
+use Rattle.prelude.specs.declared.Refusal.{Refusal}
+use Rattle.prelude.specs.declared.Refusal.the-variants.{BankCount, BankNumber, BanksOverlap, Malformed}
+use Rattle.prelude.specs.declared.Refusal.the-variants.{PositionPast, LabelOffBoundary, Unresolved, DefaultBank, PastBank}
+use Rattle.prelude.specs.declared.Refusal.the-variants.{NoOutput, Overlap, StoreFull, TooShort, BadStore, BadPart, PartlyCovered, FillBitDropped, OffProfile}
 use Rattle.iter.specs.Step.{noLost}
 use Rattle.output.specs.Output.{Input, Lent, Room, roomOf, buildOf, Builds}
 use Rattle.output.specs.Output.{Figures, toldBuild}

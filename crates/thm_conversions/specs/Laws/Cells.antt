@@ -7,7 +7,7 @@ use native.Mathlib.Omega.{arith}
 use lib.Dec.{eqb}
 use lib.ListN.{getD, length, take, drop, length-append, length-drop}
 use lib.Seq.{length-take-le, take-append-le, take-take, drop-append-add, drop-drop}
-use Rattle.refusal.specs.Pick.{pick}
+use Rattle.prelude.specs.Pick.{pick}
 use Rattle.thm_conversions.specs.Widened.{turned, zerosAhead}
 
 -- ---- one column

@@ -8,20 +8,20 @@ use native.Mathlib.Omega.{arith}
 use borrow.Author.Tests.{eqb-true, eq-eqb, leb-true, le-leb}
 use lib.Dec.{eqb, leb, ltb}
 use lib.ListN.{getD, length}
-use Rattle.refusal.specs.Laws.Bools.{either, both}
-use Rattle.refusal.specs.Limits.{maxNodes, maxRows}
-use Rattle.refusal.specs.Pick.{pick}
-use Rattle.refusal.specs.declared.Refusal.the-variants.{BankNumber, Malformed}
-use Rattle.refusal.specs.declared.Verdict.{Verdict}
-use Rattle.refusal.specs.declared.Verdict.the-variants.{Accepted, Refused}
+use Rattle.prelude.specs.Laws.Bools.{either, both}
+use Rattle.prelude.specs.Limits.{maxNodes, maxRows}
+use Rattle.prelude.specs.Pick.{pick}
+use Rattle.prelude.specs.declared.Refusal.the-variants.{BankNumber, Malformed}
+use Rattle.prelude.specs.declared.Verdict.{Verdict}
+use Rattle.prelude.specs.declared.Verdict.the-variants.{Accepted, Refused}
 use Rattle.bankdef.specs.Check.{checkBanks, firstPair}
 use Rattle.bankdef.specs.Numbers.{startSound, isZero, fillBit, bankFault, zeroFault}
 use Rattle.bankdef.specs.Search.{firstWhere}
 use Rattle.bankdef.specs.declared.Bankdef.{Bankdef}
-use Rattle.lists.specs.Kinds.{isItem}
-use Rattle.lists.specs.declared.Node.{Node}
-use Rattle.lists.specs.Lists.{Lists, Row, nodeAt, nodeOf, rowAt, rowFault, headFault, anyRowFault, nodeFault, firstOf, nodesTo}
-use Rattle.lists.specs.Lists.{nodeCountSound, rowCountSound, knownFill, listsOf}
+use Rattle.nodes.specs.Kinds.{isItem}
+use Rattle.nodes.specs.declared.Node.{Node}
+use Rattle.nodes.specs.Lists.{Lists, Row, nodeAt, nodeOf, rowAt, rowFault, headFault, anyRowFault, nodeFault, firstOf, nodesTo}
+use Rattle.nodes.specs.Lists.{nodeCountSound, rowCountSound, knownFill, listsOf}
 use Rattle.thm_conversions.specs.Widened.{bare, turned, shifted, misplaced, withSwitch}
 use Rattle.thm_conversions.specs.Steps.{up}
 use Rattle.thm_conversions.specs.Laws.Cells.{length-ahead, turned-length}

@@ -4,10 +4,10 @@ use mathlib.Core.Path.{_≡_, refl}
 use Prim.Native.Nat.{ℕ}
 use borrow.Author.Tests.{ltb-false}
 use lib.Dec.{ltb}
-use Rattle.refusal.specs.Laws.Bools.{unlike}
-use Rattle.refusal.specs.Limits.{maxNodes, maxRows}
-use Rattle.refusal.specs.Pick.{pick}
-use Rattle.refusal.specs.declared.Refusal.{Refusal}
+use Rattle.prelude.specs.Laws.Bools.{unlike}
+use Rattle.prelude.specs.Limits.{maxNodes, maxRows}
+use Rattle.prelude.specs.Pick.{pick}
+use Rattle.prelude.specs.declared.Refusal.{Refusal}
 use Rattle.form_convert.specs.declared.Conversion.{Conversion}
 use Rattle.form_convert.specs.declared.Conversion.the-variants.{Converted, Refused}
 use Rattle.form_convert.specs.Convert.{answerOf}

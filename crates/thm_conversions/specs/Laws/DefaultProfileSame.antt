@@ -2,11 +2,11 @@
 use Prim.Native.Nat.{ℕ, zero, suc}
 use mathlib.Core.Bool.{Bool, true, false}
 use lib.ListN.{length}
-use Rattle.refusal.specs.Pick.{pick}
-use Rattle.refusal.specs.declared.Refusal.the-variants.{Malformed}
-use Rattle.refusal.specs.declared.Verdict.{Verdict}
-use Rattle.refusal.specs.declared.Verdict.the-variants.{Accepted, Refused}
-use Rattle.lists.specs.Lists.{Lists, firstOf, nodeCountSound, rowCountSound, knownFill, nodeFault, nodesTo, listsOf}
+use Rattle.prelude.specs.Pick.{pick}
+use Rattle.prelude.specs.declared.Refusal.the-variants.{Malformed}
+use Rattle.prelude.specs.declared.Verdict.{Verdict}
+use Rattle.prelude.specs.declared.Verdict.the-variants.{Accepted, Refused}
+use Rattle.nodes.specs.Lists.{Lists, firstOf, nodeCountSound, rowCountSound, knownFill, nodeFault, nodesTo, listsOf}
 
 -- The list check names 4 alone.
 pub data Four : Verdict → Type 0 where

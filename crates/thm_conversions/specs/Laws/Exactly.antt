@@ -6,10 +6,10 @@ use mathlib.Core.Path.{_≡_, refl, sym, ap}
 use native.Mathlib.Omega.{arith}
 use lib.ListN.{length, getD}
 use borrow.Author.Tests.{eq-eqb, eqb-true}
-use Rattle.refusal.specs.Laws.Bools.{either, both, clash, unlike}
-use Rattle.refusal.specs.Told.{Told, gives, refuses, toldNumber}
-use Rattle.refusal.specs.declared.Place.{Place}
-use Rattle.refusal.specs.declared.Place.the-variants.{One}
+use Rattle.prelude.specs.Laws.Bools.{either, both, clash, unlike}
+use Rattle.prelude.specs.Told.{Told, gives, refuses, toldNumber}
+use Rattle.prelude.specs.declared.Place.{Place}
+use Rattle.prelude.specs.declared.Place.the-variants.{One}
 use Rattle.form_fields.specs.declared.Form.{Form}
 use Rattle.form_fields.specs.declared.Kind.{Kind}
 use Rattle.form_fields.specs.Contents.{Contents, written}

@@ -3,8 +3,8 @@ use mathlib.Core.Bool.{Bool}
 use mathlib.Core.Path.{_≡_, refl}
 use Prim.Native.Nat.{ℕ, _≤_, _<_}
 use borrow.Author.Tests.{le-ltb, lt-ltb}
-use Rattle.refusal.specs.Limits.{maxNodes, maxRows}
-use Rattle.refusal.specs.declared.Refusal.the-variants.{Malformed}
+use Rattle.prelude.specs.Limits.{maxNodes, maxRows}
+use Rattle.prelude.specs.declared.Refusal.the-variants.{Malformed}
 use Rattle.form_convert.specs.declared.Conversion.the-variants.{Refused}
 use Rattle.form_convert.specs.Convert.{answerOf}
 

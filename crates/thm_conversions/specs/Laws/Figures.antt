@@ -4,15 +4,15 @@ use mathlib.Core.Path.{_≡_, refl}
 use mathlib.Core.Bool.{Bool, true, false}
 use lib.Dec.{ltb}
 use lib.ListN.{length}
-use Rattle.refusal.specs.Pick.{pick}
-use Rattle.refusal.specs.declared.Refusal.the-variants.{TooShort}
+use Rattle.prelude.specs.Pick.{pick}
+use Rattle.prelude.specs.declared.Refusal.the-variants.{TooShort}
 use Rattle.resolver.specs.declared.Settled.{Settled}
 use Rattle.resolver.specs.declared.Settled.the-variants.{At, Refused as Unsettled}
-use Rattle.build_sights.specs.Items.{lengthOf, itemsOf}
+use Rattle.build_visits.specs.Items.{lengthOf, itemsOf}
 use Rattle.output.specs.Output.{Input, Room, roomFor, placedBuild, settledBuild, settledOf, passesOf, visitsOf, buildOf}
 use Rattle.output.specs.Output.{closedOf, fillOf, toldBuild, roomTold, placedTold, settledTold}
 use Rattle.build_plan.specs.Placing.{Placed, holds, stops, placedAll}
-use Rattle.build_sights.specs.Spans.{spansOf}
+use Rattle.build_visits.specs.Spans.{spansOf}
 use Rattle.output.specs.declared.Build.the-variants.{Done, Refused}
 
 room-told : (room : Room) (k bits spans : ℕ) → toldBuild (roomFor room k bits spans) ≡ roomTold room k bits spans

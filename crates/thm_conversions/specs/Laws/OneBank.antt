@@ -10,15 +10,15 @@ use lib.ListN.{length, getD, take, drop, length-map, take-append-drop}
 use lib.Seq.{length-take-le, take-at, drop-at, getD-append-add}
 use mir.Syntax.{w64}
 use mir.Val.{toZ}
-use Rattle.refusal.specs.Laws.Bools.{both, clash}
-use Rattle.refusal.specs.Limits.{maxNodes}
-use Rattle.refusal.specs.Pick.{pick}
-use Rattle.refusal.specs.declared.Opt.{Opt}
-use Rattle.refusal.specs.declared.Opt.the-variants.{None, Some}
+use Rattle.prelude.specs.Laws.Bools.{both, clash}
+use Rattle.prelude.specs.Limits.{maxNodes}
+use Rattle.prelude.specs.Pick.{pick}
+use Rattle.prelude.specs.declared.Opt.{Opt}
+use Rattle.prelude.specs.declared.Opt.the-variants.{None, Some}
 use Rattle.bankdef.specs.Search.{firstWhere}
 use Rattle.bankdef.specs.declared.Bankdef.{Bankdef}
 use Rattle.bankdef.specs.declared.Bankdefs.{Bankdefs}
-use Rattle.lists.specs.Lists.{Lists, lists}
+use Rattle.nodes.specs.Lists.{Lists, lists}
 use Rattle.output.specs.Output.{Input, input, Lent, roomOf, visitsOf, buildOf, leftBy, Builds}
 use Rattle.output.specs.Output.{toldBuild}
 use Rattle.output.specs.declared.Output.{Output}

@@ -8,8 +8,8 @@ use native.Mathlib.Omega.{arith}
 use borrow.Author.Tests.{eqb-true}
 use lib.ListN.{length, getD, take, drop, take-append-drop}
 use lib.Seq.{length-take-le, getD-at}
-use Rattle.refusal.specs.Laws.Bools.{both}
-use Rattle.refusal.specs.Pick.{pick}
+use Rattle.prelude.specs.Laws.Bools.{both}
+use Rattle.prelude.specs.Pick.{pick}
 use Rattle.form_fields.specs.Words.{byte}
 use Rattle.form_fields.specs.Kind.{form1, form2}
 use Rattle.form_fields.specs.Contents.{Each, BankFits}

@@ -6,17 +6,17 @@ use mathlib.Core.Bool.{Bool, true, false}
 use mathlib.Core.List.{_∷_}
 use lib.Dec.{eqb}
 use lib.ListN.{getD, length, replicate}
-use Rattle.refusal.specs.Pick.{pick}
+use Rattle.prelude.specs.Pick.{pick}
 use Rattle.bankdef.specs.declared.Bankdef.{Bankdef}
 use Rattle.bankdef.specs.declared.Bankdefs.{Bankdefs}
 use Rattle.bitvec.specs.Lists.{listOf}
 use Rattle.iter.specs.Step.{origin, noLost, startOf}
 use Rattle.iter.specs.StepCases.{standing}
-use Rattle.lists.specs.declared.Node.{Node}
+use Rattle.nodes.specs.declared.Node.{Node}
 use Rattle.iter.specs.declared.Lost.{Lost}
 use Rattle.iter.specs.declared.Walk.{Walk}
 use Rattle.resolver.specs.KnownInPass.{bankAt}
-use Rattle.lists.specs.Lists.{Row}
+use Rattle.nodes.specs.Lists.{Row}
 use Rattle.resolver.specs.NodeOrder.{defAt}
 use Rattle.resolver.specs.Once.{Program, node, walkTo}
 use Rattle.resolver.specs.Padding.{distanceIn, labelLoses, lostBy, standsAt, lostAt, unitsAt, sumIn, paddingTo}

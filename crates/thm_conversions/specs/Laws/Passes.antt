@@ -6,10 +6,10 @@ use mathlib.Core.List.{List}
 use native.Mathlib.Omega.{arith}
 use lib.Dec.{eqb, ltb}
 use lib.ListN.{getD}
-use Rattle.refusal.specs.Pick.{pick}
-use Rattle.refusal.specs.declared.Refusal.the-variants.{Unresolved}
+use Rattle.prelude.specs.Pick.{pick}
+use Rattle.prelude.specs.declared.Refusal.the-variants.{Unresolved}
 use Rattle.bankdef.specs.declared.Bankdefs.{Bankdefs}
-use Rattle.lists.specs.Lists.{Lists, Row, rowAt}
+use Rattle.nodes.specs.Lists.{Lists, Row, rowAt}
 use Rattle.resolver.specs.Once.{Program, bankRecord, passOf}
 use Rattle.resolver.specs.Passes.{program, rowOfPass, passAt, unresolved, first, passK, lastOf, afterK, settledBy, resolutionOf}
 use Rattle.resolver.specs.declared.Pass.{Pass}

@@ -8,7 +8,7 @@ use lib.Dec.{eqb}
 use lib.ListN.{length, getD, take, drop, length-drop, take-append-drop, drop-of-length-le}
 use lib.Seq.{take-at, drop-at, take-append-le, getD-at, length-take-le, take-take, drop-cons}
 use borrow.Author.Tests.{eq-eqb, eqb-true, not-false}
-use Rattle.refusal.specs.Laws.Bools.{either, both, clash}
+use Rattle.prelude.specs.Laws.Bools.{either, both, clash}
 use Rattle.bankdef.specs.Search.{firstWhere}
 use Rattle.form_fields.specs.Kind.{form1, form2}
 use Rattle.form_fields.specs.Contents.{Each, Long, BankFits}

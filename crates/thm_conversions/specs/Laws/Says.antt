@@ -8,7 +8,7 @@ use lib.Dec.{ltb}
 use lib.ListN.{length, take}
 use mir.Syntax.{w64}
 use mir.Val.{toZ}
-use Rattle.refusal.specs.Pick.{pick}
+use Rattle.prelude.specs.Pick.{pick}
 use Rattle.form_fields.specs.declared.Kind.{Kind}
 use Rattle.form_fields.specs.Words.{byte, word16, word32, word64}
 use Rattle.form_fields.specs.Kind.{Known, is1, is2}

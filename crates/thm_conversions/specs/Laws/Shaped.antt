@@ -5,8 +5,8 @@ use mathlib.Core.Path.{_≡_, refl}
 use Prim.Native.Nat.{ℕ, suc, _≤_}
 use native.Mathlib.Omega.{arith}
 use lib.ListN.{length}
-use Rattle.refusal.specs.Laws.Bools.{clash}
-use Rattle.refusal.specs.Pick.{pick}
+use Rattle.prelude.specs.Laws.Bools.{clash}
+use Rattle.prelude.specs.Pick.{pick}
 use Rattle.bankdef.specs.Search.{firstWhere}
 use Rattle.form_rewrite.specs.Turning.{switchTo, isSwitch, strays, turned}
 

@@ -6,12 +6,12 @@ use mathlib.Core.List.{_∷_}
 use borrow.Author.Tests.{eqb-true}
 use lib.Dec.{eqb, leb}
 use lib.ListN.{replicate}
-use Rattle.refusal.specs.Laws.Bools.{either}
-use Rattle.refusal.specs.Limits.{maxPosition}
-use Rattle.refusal.specs.Pick.{pick}
-use Rattle.refusal.specs.declared.Opt.{Opt}
-use Rattle.refusal.specs.declared.Opt.the-variants.{None, Some}
-use Rattle.refusal.specs.declared.Refusal.the-variants.{Malformed}
+use Rattle.prelude.specs.Laws.Bools.{either}
+use Rattle.prelude.specs.Limits.{maxPosition}
+use Rattle.prelude.specs.Pick.{pick}
+use Rattle.prelude.specs.declared.Opt.{Opt}
+use Rattle.prelude.specs.declared.Opt.the-variants.{None, Some}
+use Rattle.prelude.specs.declared.Refusal.the-variants.{Malformed}
 use Rattle.bankdef.specs.declared.Bankdef.{Bankdef}
 use Rattle.iter.specs.Distance.{tellable, addressInBits, distanceTo, distanceOf, noSkip}
 use Rattle.iter.specs.Step.{origin, noLost, movedBy, alignedTo, outermostSymbol, labelAligned, labelSkips, seenOf, badState, movedOn, advancedOf}
@@ -19,10 +19,10 @@ use Rattle.iter.specs.Step.{skipsBy, whenMade, seenSkips, advanceSkips, lostAft
 use Rattle.iter.specs.declared.Lost.{Lost}
 use Rattle.iter.specs.declared.Moved.{Moved}
 use Rattle.iter.specs.declared.Moved.the-variants.{To, Refused as Stopped}
-use Rattle.lists.specs.declared.Node.{Node}
-use Rattle.lists.specs.declared.kinds.Doing.{Doing}
-use Rattle.lists.specs.declared.kinds.Doing.the-variants.{Stays, Switches, Symbol, Adds, Aligns, Sets, Unknown}
-use Rattle.lists.specs.Kinds.{doesOf, byDoing}
+use Rattle.nodes.specs.declared.Node.{Node}
+use Rattle.nodes.specs.declared.kinds.Doing.{Doing}
+use Rattle.nodes.specs.declared.kinds.Doing.the-variants.{Stays, Switches, Symbol, Adds, Aligns, Sets, Unknown}
+use Rattle.nodes.specs.Kinds.{doesOf, byDoing}
 use Rattle.iter.specs.declared.Pos.{Pos}
 use Rattle.iter.specs.declared.Skipped.{Skipped}
 use Rattle.iter.specs.declared.Stepped.{Stepped}

@@ -8,13 +8,13 @@ use borrow.Author.Tests.{eqb-true}
 use lib.Dec.{eqb}
 use lib.IntN.{ℤ}
 use lib.ListN.{length}
-use Rattle.refusal.specs.Laws.Bools.{either}
-use Rattle.refusal.specs.Pick.{pick}
-use Rattle.refusal.specs.declared.Offset.{Offset}
-use Rattle.refusal.specs.declared.Offset.the-variants.{None as Nowhere, At as Out}
-use Rattle.refusal.specs.declared.Refusal.the-variants.{PastBank, NoOutput, Overlap, StoreFull}
-use Rattle.refusal.specs.declared.Verdict.{Verdict}
-use Rattle.refusal.specs.declared.Verdict.the-variants.{Accepted, Refused}
+use Rattle.prelude.specs.Laws.Bools.{either}
+use Rattle.prelude.specs.Pick.{pick}
+use Rattle.prelude.specs.declared.Offset.{Offset}
+use Rattle.prelude.specs.declared.Offset.the-variants.{None as Nowhere, At as Out}
+use Rattle.prelude.specs.declared.Refusal.the-variants.{PastBank, NoOutput, Overlap, StoreFull}
+use Rattle.prelude.specs.declared.Verdict.{Verdict}
+use Rattle.prelude.specs.declared.Verdict.the-variants.{Accepted, Refused}
 use Rattle.bankdef.specs.declared.Bankdef.{Bankdef}
 use Rattle.bankdef.specs.declared.Bankdefs.{Bankdefs}
 use Rattle.iter.specs.Address.{addressOf, outputPosition}
@@ -22,25 +22,25 @@ use Rattle.iter.specs.Distance.{tellable}
 use Rattle.iter.specs.Step.{startOf, seenOf, movedOn, advancedOf, seenSkips, advanceSkips, bankAfter, stepOf}
 use Rattle.iter.specs.declared.Moved.{Moved}
 use Rattle.iter.specs.declared.Moved.the-variants.{To, Refused as Stopped}
-use Rattle.lists.specs.Kinds.{sizeOf}
-use Rattle.lists.specs.declared.Node.{Node}
+use Rattle.nodes.specs.Kinds.{sizeOf}
+use Rattle.nodes.specs.declared.Node.{Node}
 use Rattle.iter.specs.declared.Pos.{Pos}
 use Rattle.iter.specs.declared.Walk.{Walk}
-use Rattle.lists.specs.Lists.{Row, firstOf}
+use Rattle.nodes.specs.Lists.{Row, firstOf}
 use Rattle.resolver.specs.Once.{Program, node, bankOf, stepAt, walkTo}
 use Rattle.overlap_checker.specs.declared.Entry.{Entry}
 use Rattle.overlap_checker.specs.Offers.{lacksRoom}
 use Rattle.overlap_checker.specs.State.{State, emptyState, meets, tries, namedIn, answer}
 use Rattle.overlap_checker.specs.Folds.{stateAfter}
-use Rattle.build_sights.specs.Items.{isWritten, standing, itemAt, itemOf, itemsOf}
+use Rattle.build_visits.specs.Items.{isWritten, standing, itemAt, itemOf, itemsOf}
 use Rattle.build_plan.specs.Placing.{endsPast, lacksOutput, isPlaced, isOffered, bitsAt, offerAt}
 use Rattle.build_plan.specs.Placing.{offerOf, checked, answered, tried, placing, verdictSeen, verdictOn}
 use Rattle.build_plan.specs.Placing.{Placed, holds, stops, placedIf, placedNext, placedFrom, placedAll}
 use Rattle.build_plan.specs.Laws.PlacingLaws.{placed-last}
-use Rattle.build_sights.specs.Spans.{Span, isSpan, addressTold, spanOf, spansOf}
-use Rattle.build_sights.specs.Laws.VisitLaws.{visits-none, visits-next, each-next}
-use Rattle.build_sights.specs.Visits.{seenPos, positionOf, visitAt, visitsTo, visits, each}
-use Rattle.build_sights.specs.declared.Visit.{Visit}
+use Rattle.build_visits.specs.Spans.{Span, isSpan, addressTold, spanOf, spansOf}
+use Rattle.build_visits.specs.Laws.VisitLaws.{visits-none, visits-next, each-next}
+use Rattle.build_visits.specs.Visits.{seenPos, positionOf, visitAt, visitsTo, visits, each}
+use Rattle.build_visits.specs.declared.Visit.{Visit}
 use Rattle.thm_conversions.specs.Widened.{shifted}
 use Rattle.thm_conversions.specs.Steps.{up}
 use Rattle.thm_conversions.specs.Laws.Steps.{shiftedMoved}

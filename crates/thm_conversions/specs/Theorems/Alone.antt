@@ -3,20 +3,20 @@ use mathlib.Core.Path.{_≡_, refl, ap, _∙_}
 use Prim.Native.Nat.{_*_}
 use native.Mathlib.Omega.{arith}
 use borrow.Author.Tests.{le-ltb}
-use Rattle.refusal.specs.Laws.Pick.{pick-false}
-use Rattle.refusal.specs.declared.Opt.the-variants.{None}
-use Rattle.refusal.specs.declared.Refusal.the-variants.{DefaultBank}
+use Rattle.prelude.specs.Laws.Pick.{pick-false}
+use Rattle.prelude.specs.declared.Opt.the-variants.{None}
+use Rattle.prelude.specs.declared.Refusal.the-variants.{DefaultBank}
 use Rattle.bankdef.specs.Check.{firstPair}
 use Rattle.bankdef.specs.Fill.{fillFrom}
 use Rattle.bankdef.specs.Search.{firstWhere}
 use Rattle.iter.specs.Distance.{distanceOf}
 use Rattle.iter.specs.Step.{startOf, seenOf, movedOn, advancedOf, seenSkips, advanceSkips, stepOf}
 use Rattle.resolver.specs.Layout.{layoutOf}
-use Rattle.lists.specs.Lists.{nodesTo, anyRowFault, listsOf}
+use Rattle.nodes.specs.Lists.{nodesTo, anyRowFault, listsOf}
 use Rattle.resolver.specs.Once.{walkTo, passTo}
 use Rattle.resolver.specs.Passes.{first, settledBy}
-use Rattle.build_sights.specs.Visits.{visitsTo, each}
-use Rattle.build_sights.specs.Items.{lengthOf}
+use Rattle.build_visits.specs.Visits.{visitsTo, each}
+use Rattle.build_visits.specs.Items.{lengthOf}
 use Rattle.build_plan.specs.Placing.{checked, placedFrom}
 use Rattle.output.specs.Output.{Room, roomFor, refusedAfter, buildOf}
 use Rattle.output.specs.declared.Build.the-variants.{Done}

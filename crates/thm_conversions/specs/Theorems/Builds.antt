@@ -1,8 +1,8 @@
 -- Theorems about what Builds defines.
 use Prim.Native.Nat.{ℕ}
 use mathlib.Core.Path.{_≡_, refl, sym, ap, _∙_}
-use Rattle.refusal.specs.declared.Verdict.{Verdict}
-use Rattle.refusal.specs.declared.Verdict.the-variants.{Accepted, Refused as Turned}
+use Rattle.prelude.specs.declared.Verdict.{Verdict}
+use Rattle.prelude.specs.declared.Verdict.the-variants.{Accepted, Refused as Turned}
 use Rattle.bankdef.specs.declared.Bankdefs.{Bankdefs}
 use Rattle.output.specs.Output.{Input, Lent, roomOf}
 use Rattle.output.specs.declared.Output.{Output}

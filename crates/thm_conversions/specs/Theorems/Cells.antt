@@ -3,8 +3,8 @@ use Prim.Native.Nat.{ℕ, suc, _<_}
 use mathlib.Core.Path.{_≡_, ap}
 use mathlib.Core.List.{List, _∷_}
 use lib.ListN.{length}
-use Rattle.lists.specs.declared.Node.{Node}
-use Rattle.lists.specs.Lists.{Lists, Row, rowAt, nodeAt}
+use Rattle.nodes.specs.declared.Node.{Node}
+use Rattle.nodes.specs.Lists.{Lists, Row, rowAt, nodeAt}
 use Rattle.thm_conversions.specs.Widened.{turned, withSwitch}
 use Rattle.thm_conversions.specs.Steps.{up}
 use Rattle.thm_conversions.specs.Cells.{Counted, zeroed}

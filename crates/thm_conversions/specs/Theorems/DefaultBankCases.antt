@@ -6,9 +6,9 @@ use mathlib.Core.List.{[], _∷_}
 use native.Mathlib.Omega.{arith}
 use lib.IntN.{pos}
 use lib.ListN.{getD, replicate}
-use Rattle.refusal.specs.declared.Opt.the-variants.{None}
+use Rattle.prelude.specs.declared.Opt.the-variants.{None}
 use Rattle.bankdef.specs.Check.{noBank}
-use Rattle.lists.specs.Lists.{lists}
+use Rattle.nodes.specs.Lists.{lists}
 use Rattle.output.specs.Output.{input}
 use Rattle.thm_conversions.specs.Widened.{withBank1, OneBank}
 use Rattle.thm_conversions.specs.DefaultBankCases.{bank, one}

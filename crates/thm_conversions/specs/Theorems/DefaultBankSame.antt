@@ -6,14 +6,14 @@ use mathlib.Core.List.{List, [], _∷_}
 use native.Mathlib.Omega.{arith}
 use lib.Dec.{ltb}
 use lib.ListN.{getD, length, take, replicate}
-use Rattle.refusal.specs.Laws.Bools.{either, both, unlike}
-use Rattle.refusal.specs.Limits.{maxBanks}
-use Rattle.refusal.specs.Pick.{pick}
-use Rattle.refusal.specs.Laws.Pick.{pick-true, pick-false}
-use Rattle.refusal.specs.declared.Refusal.{Refusal}
-use Rattle.refusal.specs.declared.Refusal.the-variants.{BankCount, BankNumber, Malformed, TooShort}
-use Rattle.refusal.specs.declared.Verdict.{Verdict}
-use Rattle.refusal.specs.declared.Verdict.the-variants.{Accepted, Refused as Turned}
+use Rattle.prelude.specs.Laws.Bools.{either, both, unlike}
+use Rattle.prelude.specs.Limits.{maxBanks}
+use Rattle.prelude.specs.Pick.{pick}
+use Rattle.prelude.specs.Laws.Pick.{pick-true, pick-false}
+use Rattle.prelude.specs.declared.Refusal.{Refusal}
+use Rattle.prelude.specs.declared.Refusal.the-variants.{BankCount, BankNumber, Malformed, TooShort}
+use Rattle.prelude.specs.declared.Verdict.{Verdict}
+use Rattle.prelude.specs.declared.Verdict.the-variants.{Accepted, Refused as Turned}
 use Rattle.bankdef.specs.Check.{noBank, banksOf, countSound, checkBanks, checkOf}
 use Rattle.bankdef.specs.Fill.{fillBy}
 use Rattle.bankdef.specs.Numbers.{fillBit, bankFault}
@@ -23,22 +23,22 @@ use Rattle.iter.specs.Step.{noLost}
 use Rattle.iter.specs.declared.Lost.{Lost}
 use Rattle.resolver.specs.Theorems.LastPass.{accepted-checked}
 use Rattle.resolver.specs.Layout.{unless, layoutOf}
-use Rattle.lists.specs.Lists.{Lists, Row, rowCountSound, knownFill, listsOf}
+use Rattle.nodes.specs.Lists.{Lists, Row, rowCountSound, knownFill, listsOf}
 use Rattle.resolver.specs.Once.{Program, bankRecord}
 use Rattle.resolver.specs.Passes.{program, rowOfPass, resolutionOf}
-use Rattle.lists.specs.Theorems.Sound.{accepted-lists}
+use Rattle.nodes.specs.Theorems.Sound.{accepted-lists}
 use Rattle.resolver.specs.declared.Resolution.{Resolution}
 use Rattle.resolver.specs.declared.Settled.{Settled}
 use Rattle.resolver.specs.declared.Settled.the-variants.{At, Refused as Unsettled}
 use Rattle.build_write.specs.Blank.{blankOf}
 use Rattle.build_write.specs.Laws.Blank.{blank-zeros}
-use Rattle.build_sights.specs.Items.{Item, lengthOf, imageOf, itemsOf}
+use Rattle.build_visits.specs.Items.{Item, lengthOf, imageOf, itemsOf}
 use Rattle.output.specs.Output.{Input, Room, roomOf, Lent, outputOf, roomFor, placedBuild, buildRow, visitsOf, closedOf, fillOf, settledBuild}
 use Rattle.build_plan.specs.Plan.{paddingsOf}
 use Rattle.output.specs.Output.{passesOf, settledOf, buildOf, leftBy, Builds}
 use Rattle.build_plan.specs.Placing.{Placed, holds, stops, closesDefault, placedAll}
-use Rattle.build_sights.specs.Spans.{Span, spansOf, over, addresses, words, sizes}
-use Rattle.build_sights.specs.Visits.{visits}
+use Rattle.build_visits.specs.Spans.{Span, spansOf, over, addresses, words, sizes}
+use Rattle.build_visits.specs.Visits.{visits}
 use Rattle.output.specs.declared.Build.{Build}
 use Rattle.output.specs.declared.Build.the-variants.{Done, Refused}
 use Rattle.output.specs.declared.Output.{Output}

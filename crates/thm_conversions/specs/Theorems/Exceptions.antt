@@ -9,8 +9,8 @@ use native.Mathlib.Omega.{arith}
 use borrow.Author.Tests.{eqb-true, ne-eqb}
 use lib.Dec.{eqb}
 use lib.ListN.{length, take, length-map}
-use Rattle.refusal.specs.Limits.{maxNodes}
-use Rattle.refusal.specs.declared.Refusal.the-variants.{Malformed}
+use Rattle.prelude.specs.Limits.{maxNodes}
+use Rattle.prelude.specs.declared.Refusal.the-variants.{Malformed}
 use Rattle.form_fields.specs.Kind.{form1, form2, is1}
 use Rattle.form_fields.specs.Contents.{Contents, written, Fits}
 use Rattle.form_fields.specs.Whole.{contentsIn}

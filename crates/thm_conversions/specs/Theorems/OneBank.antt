@@ -5,7 +5,7 @@ use Prim.Native.Nat.{ℕ, suc, _≤_}
 use native.Mathlib.Omega.{arith}
 use borrow.Author.Tests.{eq-eqb}
 use lib.ListN.{length, getD, take, length-map}
-use Rattle.refusal.specs.declared.Opt.{Opt}
+use Rattle.prelude.specs.declared.Opt.{Opt}
 use Rattle.bankdef.specs.Search.{firstWhere}
 use Rattle.output.specs.Output.{Lent}
 use Rattle.output.specs.declared.Output.{Output}

@@ -8,15 +8,15 @@ use mathlib.Core.Path.{_≡_, refl, sym, ap, ap₂, subst, _∙_}
 use Prim.Native.Nat.{ℕ, _≤_, _<_}
 use borrow.Author.Tests.{ne-eqb, not-false}
 use lib.ListN.{length, take, length-map}
-use Rattle.refusal.specs.Pick.{pick}
-use Rattle.refusal.specs.declared.Opt.{Opt}
-use Rattle.refusal.specs.declared.Opt.the-variants.{None, Some}
-use Rattle.refusal.specs.declared.Refusal.the-variants.{BankCount}
-use Rattle.refusal.specs.declared.Verdict.{Verdict}
-use Rattle.refusal.specs.declared.Verdict.the-variants.{Refused as Turned}
+use Rattle.prelude.specs.Pick.{pick}
+use Rattle.prelude.specs.declared.Opt.{Opt}
+use Rattle.prelude.specs.declared.Opt.the-variants.{None, Some}
+use Rattle.prelude.specs.declared.Refusal.the-variants.{BankCount}
+use Rattle.prelude.specs.declared.Verdict.{Verdict}
+use Rattle.prelude.specs.declared.Verdict.the-variants.{Refused as Turned}
 use Rattle.bankdef.specs.Check.{countSound, checkBanks, banksOf}
 use Rattle.bankdef.specs.declared.Bankdef.{Bankdef}
-use Rattle.lists.specs.Lists.{listsOf}
+use Rattle.nodes.specs.Lists.{listsOf}
 use Rattle.resolver.specs.Passes.{program, rowOfPass, resolutionOf}
 use Rattle.resolver.specs.Layout.{layoutOf, unless}
 use Rattle.resolver.specs.declared.Choices.{Choices}

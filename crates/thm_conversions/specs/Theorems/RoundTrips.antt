@@ -7,7 +7,7 @@ use Prim.Native.Nat.{ℕ, suc, _*_}
 use lib.Dec.{eqb}
 use lib.ListN.{length, getD, take, drop, length-map}
 use borrow.Author.Tests.{eq-eqb, eqb-true, not-false}
-use Rattle.refusal.specs.Laws.Bools.{either, both}
+use Rattle.prelude.specs.Laws.Bools.{either, both}
 use Rattle.bankdef.specs.Search.{firstWhere}
 use Rattle.form_fields.specs.declared.Shape.{Shape}
 use Rattle.form_fields.specs.Kind.{form1, form2}

@@ -7,13 +7,13 @@ use native.Mathlib.Omega.{arith}
 use borrow.Author.Tests.{eqb-true}
 use lib.Dec.{eqb}
 use lib.ListN.{getD, length}
-use Rattle.refusal.specs.Laws.Bools.{either}
-use Rattle.refusal.specs.Pick.{pick}
+use Rattle.prelude.specs.Laws.Bools.{either}
+use Rattle.prelude.specs.Pick.{pick}
 use Rattle.bankdef.specs.Check.{noBank}
 use Rattle.bankdef.specs.declared.Bankdef.{Bankdef}
 use Rattle.bankdef.specs.declared.Bankdefs.{Bankdefs}
-use Rattle.lists.specs.declared.Node.{Node}
-use Rattle.lists.specs.Lists.{Lists, Row, nodeAt, rowAt}
+use Rattle.nodes.specs.declared.Node.{Node}
+use Rattle.nodes.specs.Lists.{Lists, Row, nodeAt, rowAt}
 use Rattle.resolver.specs.Once.{bankRecord}
 use Rattle.output.specs.Output.{Input}
 use Rattle.build_profile.specs.OneBit.{oneBit}

@@ -6,7 +6,7 @@ use mathlib.Core.Path.{_≡_, refl, sym, ap, subst, _∙_}
 use Prim.Native.Nat.{ℕ, _≤_}
 use native.Mathlib.Omega.{arith}
 use lib.ListN.{length, take, drop}
-use Rattle.refusal.specs.Limits.{maxNodes}
+use Rattle.prelude.specs.Limits.{maxNodes}
 use Rattle.form_fields.specs.Kind.{form1, form2, is2}
 use Rattle.form_fields.specs.Contents.{Contents, written, Fits}
 use Rattle.form_fields.specs.Whole.{contentsIn, Bytes}

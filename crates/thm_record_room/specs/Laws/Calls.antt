@@ -7,8 +7,8 @@ use native.Mathlib.Omega.{arith}
 use borrow.Author.Tests.{le-leb}
 use lib.Dec.{leb, eqb}
 use lib.ListN.{length}
-use Rattle.refusal.specs.Laws.Bools.{both, clash}
-use Rattle.refusal.specs.Told.{toldNumber}
+use Rattle.prelude.specs.Laws.Bools.{both, clash}
+use Rattle.prelude.specs.Told.{toldNumber}
 use Rattle.record_write.specs.Checks.{allParts, allPlaced}
 use Rattle.record_write.specs.Cut.{blocksIn}
 use Rattle.record_write.specs.Exactly.{answers}

@@ -7,10 +7,10 @@ use native.Mathlib.Omega.{arith}
 use borrow.Author.Tests.{le-leb, leb-true, eq-eqb, eqb-true}
 use lib.Dec.{leb, eqb}
 use lib.ListN.{length, drop}
-use Rattle.refusal.specs.Laws.Bools.{both, clash}
-use Rattle.refusal.specs.Pick.{pick}
-use Rattle.refusal.specs.declared.Refusal.{Refusal}
-use Rattle.refusal.specs.declared.Refusal.the-variants.{Malformed, BadPart, TooShort}
+use Rattle.prelude.specs.Laws.Bools.{both, clash}
+use Rattle.prelude.specs.Pick.{pick}
+use Rattle.prelude.specs.declared.Refusal.{Refusal}
+use Rattle.prelude.specs.declared.Refusal.the-variants.{Malformed, BadPart, TooShort}
 use Rattle.bitvec.specs.Bits.{Bytes}
 use Rattle.blocks.specs.declared.Block.{Block}
 use Rattle.record_write.specs.Checks.{allParts, allPlaced, allShort}

@@ -7,8 +7,8 @@ use native.Mathlib.Omega.{arith}
 use borrow.Author.Tests.{eqb-false}
 use lib.Dec.{eqb}
 use lib.ListN.{length, take, length-append, length-take}
-use Rattle.refusal.specs.Laws.Bools.{both}
-use Rattle.refusal.specs.Pick.{pick}
+use Rattle.prelude.specs.Laws.Bools.{both}
+use Rattle.prelude.specs.Pick.{pick}
 use Rattle.bitvec.specs.Part.{isPart}
 use Rattle.bitvec.specs.Theorems.Part.{isPart-true}
 use Rattle.sort.specs.Agree.{All}

@@ -7,15 +7,15 @@ use Prim.Native.Nat.{ℕ, suc, _+_, _*_, _/_, _≤_, _<_}
 use native.Mathlib.Omega.{arith}
 use borrow.Author.Tests.{le-leb, leb-true}
 use lib.Dec.{leb}
-use Rattle.refusal.specs.Laws.Bools.{both}
+use Rattle.prelude.specs.Laws.Bools.{both}
 use Rattle.bitvec.specs.Part.{IsPart}
 use Rattle.bitvec.specs.Theorems.Part.{isPart-when}
 use Rattle.blocks.specs.declared.Block.{Block}
 use Rattle.blocks.specs.Outcome.{origins, sizes}
 use Rattle.blocks.specs.Walk.{block}
 use Rattle.record_lines.specs.Pieces.{Piece, endOf}
-use Rattle.record_fault.specs.Reading.{isNew}
-use Rattle.record_fault.specs.Sound.{Fine, none, more}
+use Rattle.record_scan.specs.Reading.{isNew}
+use Rattle.record_scan.specs.Sound.{Fine, none, more}
 use Rattle.record_read.specs.Runs.{inBits}
 use Rattle.record_read.specs.RunLaws.{AreRuns}
 use Rattle.record_write.specs.Checks.{allParts, startsBehind, allPlaced}

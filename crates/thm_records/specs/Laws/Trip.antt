@@ -5,12 +5,12 @@ use mathlib.Core.List.{List, [], _∷_, List·Memᴰ, List·Memᴰ·head, List·
 use mathlib.Core.Logic.{⊎-elim}
 use Prim.Native.Nat.{ℕ, _≤_}
 use native.Mathlib.Omega.{arith}
-use Rattle.refusal.specs.Laws.Bools.{both}
+use Rattle.prelude.specs.Laws.Bools.{both}
 use Rattle.bitvec.specs.Part.{isPart, IsPart}
 use Rattle.bitvec.specs.Theorems.Part.{isPart-true}
 use Rattle.blocks.specs.declared.Block.{Block}
 use Rattle.record_lines.specs.Pieces.{Piece, endOf}
-use Rattle.record_fault.specs.Steps.{highest}
+use Rattle.record_scan.specs.Steps.{highest}
 use Rattle.record_write.specs.Checks.{allParts}
 
 pub highest-within : (l : List Piece) (n : ℕ) → ((p : Piece) → List·Memᴰ p l → endOf p ≤ n) → highest l ≤ n

@@ -13,9 +13,9 @@ use Rattle.record_lines.specs.Pieces.{Piece, piece, endOf}
 use Rattle.record_lines.specs.Telling.{Tells, closes, skips, tells, Rises}
 use Rattle.record_ihex_line.specs.Format.{hexItem}
 use Rattle.record_srec_line.specs.Srec.{srecItem}
-use Rattle.record_fault.specs.Reading.{formatBy, Read, sound, later, isNone, goOn, readFrom, readText}
-use Rattle.record_fault.specs.Steps.{highest}
-use Rattle.record_fault.specs.Laws.TrailLaws.{high-append, new-above}
+use Rattle.record_scan.specs.Reading.{formatBy, Read, sound, later, isNone, goOn, readFrom, readText}
+use Rattle.record_scan.specs.Steps.{highest}
+use Rattle.record_scan.specs.Laws.TrailLaws.{high-append, new-above}
 use Rattle.thm_records.specs.Laws.Back.{tells-alike}
 
 module _ (f : Format) (load : ℕ) where

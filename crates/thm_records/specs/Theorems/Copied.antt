@@ -7,17 +7,17 @@ use mathlib.Core.Logic.{_↔_}
 use Prim.Native.Nat.{ℕ, suc, _+_, _-_, _*_, _/_, _≤_}
 use native.Mathlib.Omega.{arith}
 use lib.ListN.{length, getD, take}
-use Rattle.refusal.specs.Told.{gives}
+use Rattle.prelude.specs.Told.{gives}
 use Rattle.bitvec.specs.Bits.{Bytes}
 use Rattle.blocks.specs.declared.Block.{Block}
 use Rattle.blocks.specs.declared.Blocks.{Blocks}
 use Rattle.blocks.specs.Bits.{InBlock}
 use Rattle.blocks.specs.Outcome.{sizes, toldBy}
 use Rattle.record_lines.specs.Pieces.{Piece, GivesAt}
-use Rattle.record_fault.specs.Reading.{sound, readText}
-use Rattle.record_fault.specs.Sound.{Fine}
-use Rattle.record_fault.specs.Theorems.Sound.{sound-pieces-fine}
-use Rattle.record_fault.specs.Steps.{highest}
+use Rattle.record_scan.specs.Reading.{sound, readText}
+use Rattle.record_scan.specs.Sound.{Fine}
+use Rattle.record_scan.specs.Theorems.Sound.{sound-pieces-fine}
+use Rattle.record_scan.specs.Steps.{highest}
 use Rattle.record_read.specs.Given.{given, filled}
 use Rattle.record_read.specs.Theorems.GivenLaws.{filled-at, filled-long}
 use Rattle.record_read.specs.Laws.GivenLaws.{given-below}

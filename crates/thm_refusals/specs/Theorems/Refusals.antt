@@ -14,7 +14,7 @@ use Rattle.bankdef.specs.Search.{firstWhere}
 use Rattle.iter.specs.Address.{addressOf}
 use Rattle.iter.specs.Distance.{distanceOf}
 use Rattle.iter.specs.Step.{startOf, seenOf, movedOn, advancedOf, seenSkips, advanceSkips, stepOf}
-use Rattle.lists.specs.Lists.{anyRowFault, nodesTo, listsOf}
+use Rattle.nodes.specs.Lists.{anyRowFault, nodesTo, listsOf}
 use Rattle.resolver.specs.Layout.{layoutOf}
 use Rattle.resolver.specs.Once.{walkTo, passTo}
 use Rattle.resolver.specs.Passes.{first, settledBy}
@@ -24,8 +24,8 @@ use Rattle.overlap_checker.specs.Marks.{countBelow, crossesAny, lowestInside}
 use Rattle.overlap_checker.specs.Offers.{placeFor, clashesAny, named, lacksRoom}
 use Rattle.overlap_checker.specs.State.{meets, tries, namedIn, keeping, after}
 use Rattle.overlap_checker.specs.declared.Entry.{Entry}
-use Rattle.build_sights.specs.Visits.{visitsTo, each}
-use Rattle.build_sights.specs.Items.{lengthOf}
+use Rattle.build_visits.specs.Visits.{visitsTo, each}
+use Rattle.build_visits.specs.Items.{lengthOf}
 use Rattle.build_plan.specs.Placing.{checked, placedFrom}
 use Rattle.form_fields.specs.Columns.{column}
 use Rattle.output.specs.Output.{buildOf}

@@ -7,14 +7,14 @@ use Prim.Native.Nat.{ℕ, _+_, _*_, _<_, _≤_}
 use native.Mathlib.Omega.{arith}
 use borrow.Author.Tests.{ltb-true}
 use lib.Dec.{ltb}
-use Rattle.refusal.specs.Pick.{pick}
+use Rattle.prelude.specs.Pick.{pick}
 use Rattle.bankdef.specs.declared.Bankdef.{Bankdef}
 use Rattle.bitvec.specs.Bits.{bitAt}
 use Rattle.bitvec.specs.HexDigits.{digitOf, paddedBit, digitValue, digitAt, digitCount, hexOf}
 use Rattle.bitvec.specs.Lists.{listOf}
 use Rattle.bitvec.specs.Numeral.{numeral}
-use Rattle.build_sights.specs.Items.{Item, imageOf}
-use Rattle.build_sights.specs.Laws.ItemLaws.{image-agrees}
+use Rattle.build_visits.specs.Items.{Item, imageOf}
+use Rattle.build_visits.specs.Laws.ItemLaws.{image-agrees}
 use Rattle.build_write.specs.Blank.{blankOf}
 use Rattle.build_write.specs.Laws.Blank.{blank-bit, blank-length}
 

@@ -2,13 +2,13 @@
 -- file which one is at fault.
 use mathlib.Core.Path.{_≡_, refl}
 use mathlib.Core.List.{_++_}
-use Rattle.refusal.specs.declared.Opt.the-variants.{None}
+use Rattle.prelude.specs.declared.Opt.the-variants.{None}
 use Rattle.bankdef.specs.Check.{firstPair}
 use Rattle.bankdef.specs.Search.{firstWhere}
 use Rattle.iter.specs.Address.{addressOf}
 use Rattle.iter.specs.Distance.{distanceOf}
 use Rattle.iter.specs.Step.{startOf, seenOf, movedOn, advancedOf, seenSkips, advanceSkips, stepOf}
-use Rattle.lists.specs.Lists.{anyRowFault, nodesTo, listsOf}
+use Rattle.nodes.specs.Lists.{anyRowFault, nodesTo, listsOf}
 use Rattle.resolver.specs.Layout.{layoutOf}
 use Rattle.resolver.specs.Once.{walkTo, passTo}
 use Rattle.resolver.specs.Padding.{sumIn}
@@ -19,7 +19,7 @@ use Rattle.overlap_checker.specs.Marks.{countBelow, crossesAny, lowestInside}
 use Rattle.overlap_checker.specs.Offers.{placeFor, clashesAny, named, lacksRoom}
 use Rattle.overlap_checker.specs.State.{meets, tries, namedIn, keeping, after}
 use Rattle.bitvec.specs.Lists.{listOf}
-use Rattle.build_sights.specs.Visits.{visitsTo}
+use Rattle.build_visits.specs.Visits.{visitsTo}
 use Rattle.build_plan.specs.Placing.{checked, placedFrom, walkedFrom}
 use Rattle.build_map.specs.Map.{mapOf}
 use Rattle.form_fields.specs.Banks.{bankAt}

@@ -4,7 +4,7 @@ use mathlib.Core.Path.{_≡_, refl, ap, _∙_}
 use mathlib.Core.List.{List, _++_}
 use Prim.Native.Nat.{ℕ}
 use native.Mathlib.Omega.{arith}
-use Rattle.refusal.specs.declared.Opt.the-variants.{None}
+use Rattle.prelude.specs.declared.Opt.the-variants.{None}
 use Rattle.bankdef.specs.Check.{banksOf, firstPair}
 use Rattle.bankdef.specs.Search.{firstWhere}
 use Rattle.bankdef.specs.Fill.{fillFrom}
@@ -12,7 +12,7 @@ use Rattle.bankdef.specs.FillBits.{onesIn}
 use Rattle.iter.specs.Address.{addressOf}
 use Rattle.iter.specs.Distance.{distanceOf}
 use Rattle.iter.specs.Step.{startOf, seenOf, movedOn, advancedOf, seenSkips, advanceSkips, stepOf}
-use Rattle.lists.specs.Lists.{anyRowFault, nodesTo, listsOf}
+use Rattle.nodes.specs.Lists.{anyRowFault, nodesTo, listsOf}
 use Rattle.resolver.specs.Layout.{layoutOf}
 use Rattle.resolver.specs.Once.{walkTo, passTo}
 use Rattle.resolver.specs.Passes.{first, settledBy}
@@ -30,8 +30,8 @@ use Rattle.bitvec.specs.Within.{covers}
 use Rattle.bitvec.specs.Written.{writtenBit, written}
 use Rattle.blocks.specs.Spans.{spansOf}
 use Rattle.blocks.specs.Walk.{blocksFrom}
-use Rattle.build_sights.specs.Items.{itemsOf, lengthOf, imageOf}
-use Rattle.build_sights.specs.Visits.{visitsTo, each}
+use Rattle.build_visits.specs.Items.{itemsOf, lengthOf, imageOf}
+use Rattle.build_visits.specs.Visits.{visitsTo, each}
 use Rattle.build_plan.specs.Placing.{checked, placedFrom}
 use Rattle.build_write.specs.Blank.{blankOf}
 use Rattle.output.specs.Output.{buildOf}

@@ -11,7 +11,7 @@ use mir.Val.{SFits}
 use mir.ValLaws.{toZ-ofZ}
 use lib.Dec.{ltb}
 use lib.IntN.{natAbs}
-use Rattle.refusal.specs.Limits.{maxStart}
+use Rattle.prelude.specs.Limits.{maxStart}
 use Rattle.bankdef.specs.Numbers.{isZero, fillBit, bankFault}
 use Rattle.bankdef.specs.Theorems.Numbers.{start-by-magnitude}
 use Rattle.bankdef.proofs.Bankdef.at_fault.Statement.{statement}

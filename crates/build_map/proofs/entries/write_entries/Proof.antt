@@ -4,12 +4,12 @@ use Prim.Native.Nat.{_-_, _<_}
 use native.Mathlib.Omega.{arith}
 use lib.ListN.{length-map}
 use borrow.Author.Needs.{needs}
-use Rattle.refusal.specs.Limits.{maxNodes}
-use Rattle.lists.specs.Lists.{Row, rowWith}
+use Rattle.prelude.specs.Limits.{maxNodes}
+use Rattle.nodes.specs.Lists.{Row, rowWith}
 use Rattle.resolver.specs.Laws.Walking.{walks-start}
 use Rattle.resolver.specs.Once.{Program, programWith}
-use Rattle.build_sights.specs.Sights.{Comes}
-use Rattle.build_sights.specs.Theorems.Sights.{in-banks, paced-position, paced-is-visit, paced-next, paced-still}
+use Rattle.build_visits.specs.Sights.{Comes}
+use Rattle.build_visits.specs.Theorems.Sights.{in-banks, paced-position, paced-is-visit, paced-next, paced-still}
 use Rattle.build_map.proofs.EntryLaws.{Writing, begins, goes-on, first-fits, second-fits, third-fits, fourth-fits}
 use Rattle.build_map.proofs.EntryLaws.{lost-at-end, banks-at-end, positions-at-end, outputs-at-end, sizes-at-end}
 use Rattle.build_map.proofs.entries.write_entries.Statement.{statement}

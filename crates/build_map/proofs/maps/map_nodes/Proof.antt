@@ -3,8 +3,8 @@ use Prim.Native.Nat.{_*_, _≤_}
 use native.Mathlib.Nat.{mul-le-mul-right}
 use native.Mathlib.Omega.{arith}
 use lib.ListN.{length}
-use Rattle.refusal.specs.Limits.{maxNodes}
-use Rattle.lists.specs.Lists.{Lists, Rows, lists}
+use Rattle.prelude.specs.Limits.{maxNodes}
+use Rattle.nodes.specs.Lists.{Lists, Rows, lists}
 use Rattle.build_map.specs.Map.{Lent, lent}
 use Rattle.build_map.proofs.MapLaws.{unrun, ran-rows, ran-few, ran-switches, ran-listed, reach-few, finished}
 use borrow.Author.Needs.{needs}

@@ -2,9 +2,9 @@
 use mathlib.Core.Path.{sym, subst}
 use Prim.Native.Nat.{_≤_}
 use native.Mathlib.Omega.{arith}
-use Rattle.lists.specs.Lists.{rowWith}
+use Rattle.nodes.specs.Lists.{rowWith}
 use Rattle.resolver.specs.Once.{programWith}
-use Rattle.refusal.specs.Limits.{maxNodes}
+use Rattle.prelude.specs.Limits.{maxNodes}
 use Rattle.build_map.specs.declared.Reach.{Reach}
 use Rattle.build_map.proofs.MapLaws.{row-mapped}
 use borrow.Author.Needs.{needs}

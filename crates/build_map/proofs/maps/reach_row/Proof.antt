@@ -1,6 +1,6 @@
 -- `reach_row` meets its contract: the passes were refused, or the row is traced.
 use mathlib.Core.Path.{sym, ap, subst, _∙_}
-use Rattle.lists.specs.Lists.{rowWith}
+use Rattle.nodes.specs.Lists.{rowWith}
 use Rattle.resolver.specs.Once.{programWith}
 use Rattle.build_map.specs.Steps.{Few, rowReach}
 use borrow.Author.Needs.{needs}

@@ -1,6 +1,6 @@
 -- `unmapped` meets its contract.
 use mathlib.Core.Path.{ap}
-use Rattle.refusal.specs.declared.Verdict.{Verdict}
+use Rattle.prelude.specs.declared.Verdict.{Verdict}
 use lib.ListN.{replicate}
 use Rattle.iter.specs.Step.{noLost}
 use Rattle.build_map.specs.Map.{mapBy}

@@ -2,14 +2,14 @@
 use mathlib.Core.Path.{ap, _∙_}
 use mathlib.Core.List.{List}
 use native.Mathlib.Omega.{arith}
-use Rattle.build_sights.specs.Visits.{visits}
-use Rattle.build_sights.specs.declared.Visit.{Visit}
-use Rattle.lists.specs.Lists.{rowWith}
+use Rattle.build_visits.specs.Visits.{visits}
+use Rattle.build_visits.specs.declared.Visit.{Visit}
+use Rattle.nodes.specs.Lists.{rowWith}
 use Rattle.resolver.specs.Once.{programWith}
 use Rattle.build_map.specs.Laws.TracedLaws.{traced-accepted, traced-refused, some-walked}
 use Rattle.build_map.specs.Map.{wholeReach, stoppedReach}
 use borrow.Author.Needs.{needs}
-use Rattle.refusal.specs.declared.Verdict.the-variants.{Refused}
+use Rattle.prelude.specs.declared.Verdict.the-variants.{Refused}
 use Rattle.build_map.proofs.tracing.trace_row.Statement.{statement}
 use Rattle.build_map.proofs.tracing.trace_row.Tie as tie
 

@@ -7,7 +7,7 @@ use Rattle.build_plan.proofs.checks.check_place.Tie as tie
 use Rattle.build_plan.proofs.checks.check_place.Reads as reads
 use Rattle.build_plan.proofs.checks.check_place.Lts as lts
 use Rattle.build_plan.proofs.checks.ends_past.Reads as ends-past-reads
-use Rattle.lists.proofs.size_of.Reads as size-of-reads
+use Rattle.nodes.proofs.size_of.Reads as size-of-reads
 use Rattle.build_plan.proofs.checks.check_bank_usage.Reads as uses-default-reads
 use Rattle.build_plan.proofs.checks.written_nowhere.Reads as written-nowhere-reads
 

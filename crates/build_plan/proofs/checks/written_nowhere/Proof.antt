@@ -5,7 +5,7 @@ use Rattle.build_plan.proofs.checks.written_nowhere.Statement.{statemen
 use Rattle.build_plan.proofs.checks.written_nowhere.Tie as tie
 use Rattle.build_plan.proofs.checks.written_nowhere.Reads as reads
 use Rattle.build_plan.proofs.checks.written_nowhere.Lts as lts
-use Rattle.lists.proofs.is_written.Reads as is-written-reads
+use Rattle.nodes.proofs.is_written.Reads as is-written-reads
 use Rattle.build_plan.proofs.checks.lacks_output.Reads as lacks-output-reads
 
 returns : tie.Need-returns

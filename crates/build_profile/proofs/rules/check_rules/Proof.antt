@@ -1,6 +1,6 @@
 -- Each rule in its place.
 use mathlib.Core.Path.{_∙_, ap₂}
-use Rattle.lists.specs.Lists.{firstOf}
+use Rattle.nodes.specs.Lists.{firstOf}
 use Rattle.build_profile.specs.Rules.{rulesOf}
 use borrow.Author.Needs.{needs}
 use Rattle.build_profile.proofs.rules.check_rules.Statement.{statement}

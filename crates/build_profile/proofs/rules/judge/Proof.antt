@@ -1,6 +1,6 @@
 -- The table, then the lists, then the rules.
 use mathlib.Core.Path.{_∙_, sym}
-use Rattle.lists.specs.Lists.{Lists, lists}
+use Rattle.nodes.specs.Lists.{Lists, lists}
 use Rattle.build_profile.proofs.Answered.{sized, table-refused, lists-refused, rules-decide}
 use borrow.Author.Needs.{needs}
 use Rattle.build_profile.proofs.rules.judge.Statement.{statement}

@@ -2,8 +2,8 @@
 use mathlib.Core.Path.{_∙_, ap₂}
 use Prim.Native.Nat.{ℕ}
 use borrow.Author.Needs.{needs}
-use Rattle.refusal.specs.Told.{refuses}
-use Rattle.refusal.specs.declared.Place.{Place}
+use Rattle.prelude.specs.Told.{refuses}
+use Rattle.prelude.specs.declared.Place.{Place}
 use Rattle.c_answers.specs.Stores.{inFigures}
 use Rattle.c_answers.proofs.offers.tell_offer.Statement.{statement}
 use Rattle.c_answers.proofs.offers.tell_offer.Tie as tie

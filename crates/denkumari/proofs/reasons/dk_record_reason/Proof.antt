@@ -4,7 +4,7 @@ use mathlib.Core.List.{List}
 use Prim.Native.Nat.{ℕ}
 use lib.ListN.{length}
 use borrow.Author.Needs.{needs}
-use Rattle.record_fault.specs.Reading.{readText}
+use Rattle.record_scan.specs.Reading.{readText}
 use Rattle.record_reason.specs.Reasons.{whyOf}
 use Rattle.record_reason.specs.declared.Why.{Why}
 use Rattle.c_answers.specs.Parts.{reasonTold}

@@ -3,7 +3,7 @@ use borrow.Author.Needs.{needs}
 use Prim.Native.Nat.{ℕ}
 use mathlib.Core.Path.{_≡_, _∙_, sym, ap}
 use borrow.Author.Tests.{ne-eqb}
-use Rattle.refusal.specs.Laws.Pick.{pick-false}
+use Rattle.prelude.specs.Laws.Pick.{pick-false}
 use Rattle.iter.specs.Distance.{addressInBits, gap, remainder}
 use Rattle.iter.specs.Signs.{remainderOf}
 use Rattle.iter.specs.Laws.Signs.{remainder-of}

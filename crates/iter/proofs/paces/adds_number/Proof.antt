@@ -1,8 +1,8 @@
 -- By what its kind does, past the test of the state.
 use borrow.Author.Needs.{needs}
 use mathlib.Core.Path.{refl, _∙_, sym}
-use Rattle.refusal.specs.Laws.Bools.{clash}
-use Rattle.lists.specs.Laws.Kinds.{numbers}
+use Rattle.prelude.specs.Laws.Bools.{clash}
+use Rattle.nodes.specs.Laws.Kinds.{numbers}
 use Rattle.iter.proofs.PaceLaws.{add-told}
 use Rattle.iter.proofs.paces.adds_number.Statement.{statement}
 use Rattle.iter.proofs.paces.adds_number.Tie as tie

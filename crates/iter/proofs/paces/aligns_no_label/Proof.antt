@@ -1,7 +1,7 @@
 -- By the case of the alignment.
 use borrow.Author.Needs.{needs}
 use mathlib.Core.Path.{refl}
-use Rattle.refusal.specs.Laws.Bools.{clash}
+use Rattle.prelude.specs.Laws.Bools.{clash}
 use Rattle.iter.proofs.paces.aligns_no_label.Statement.{statement}
 use Rattle.iter.proofs.paces.aligns_no_label.Tie as tie
 

@@ -2,7 +2,7 @@
 use borrow.Author.Needs.{needs}
 use mathlib.Core.Path.{_≡_, _∙_, sym}
 use mathlib.Core.Bool.{false}
-use Rattle.lists.specs.Laws.Kinds.{numbers}
+use Rattle.nodes.specs.Laws.Kinds.{numbers}
 use Rattle.iter.specs.Step.{badState}
 use Rattle.iter.proofs.PaceLaws.{stay-told, switch-told, mark-told, add-told, align-told, set-told, other-told}
 use Rattle.iter.proofs.PaceLaws.{paces-bad, paces-stay, paces-switch, paces-addr, paces-item, paces-other}

@@ -3,8 +3,8 @@ use borrow.Author.Needs.{needs}
 use mathlib.Core.Path.{_≡_, refl, _∙_, sym}
 use mathlib.Core.Bool.{false}
 use native.Mathlib.Omega.{arith}
-use Rattle.refusal.specs.Laws.Bools.{clash}
-use Rattle.lists.specs.Laws.Kinds.{numbers}
+use Rattle.prelude.specs.Laws.Bools.{clash}
+use Rattle.nodes.specs.Laws.Kinds.{numbers}
 use Rattle.iter.specs.Step.{badState}
 use Rattle.iter.proofs.PaceLaws.{stay-told, switch-told, mark-told, deeper, paces-plain, paces-unaligned, paces-stay, paces-switch}
 use Rattle.iter.proofs.paces.stands_still.Statement.{statement}

@@ -3,8 +3,8 @@ use mathlib.Core.Path.{_≡_}
 use Prim.Native.Nat.{ℕ, _+_}
 use native.Mathlib.Omega.{arith}
 use borrow.Author.Needs.{needs}
-use Rattle.refusal.specs.Laws.Bools.{unlike}
-use Rattle.refusal.specs.declared.Offset.the-variants.{None, At}
+use Rattle.prelude.specs.Laws.Bools.{unlike}
+use Rattle.prelude.specs.declared.Offset.the-variants.{None, At}
 use Rattle.iter.proofs.places.get_output_position.Statement.{statement}
 use Rattle.iter.proofs.places.get_output_position.Tie as tie
 

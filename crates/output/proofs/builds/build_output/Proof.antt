@@ -4,8 +4,8 @@ use Prim.Native.Nat.{ℕ, _+_, _*_, _≤_}
 use native.Mathlib.Nat.{mul-le-mul-right}
 use native.Mathlib.Omega.{arith}
 use lib.ListN.{length}
-use Rattle.refusal.specs.Limits.{maxNodes}
-use Rattle.lists.specs.Lists.{Lists, Rows, lists}
+use Rattle.prelude.specs.Limits.{maxNodes}
+use Rattle.nodes.specs.Lists.{Lists, Rows, lists}
 use Rattle.resolver.specs.declared.Settled.the-variants.{At}
 use Rattle.output.specs.Output.{Lent, lent}
 use Rattle.output.proofs.SettledLaws.{settled-rows, settled-few, settled-switches, part-values, finished, refused}

@@ -3,10 +3,10 @@ use mathlib.Core.Path.{_≡_, sym, ap, _∙_}
 use mathlib.Core.Bool.{Bool}
 use Prim.Native.Nat.{ℕ, min}
 use lib.ListN.{length}
-use Rattle.refusal.specs.declared.Verdict.the-variants.{Accepted}
+use Rattle.prelude.specs.declared.Verdict.the-variants.{Accepted}
 use Rattle.bankdef.specs.Check.{banksOf}
 use Rattle.bankdef.specs.Fill.{fillBy}
-use Rattle.lists.specs.Lists.{Row, rowWith}
+use Rattle.nodes.specs.Lists.{Row, rowWith}
 use Rattle.resolver.specs.Once.{Program, programWith}
 use Rattle.build_plan.specs.Placing.{closesDefault}
 use Rattle.build_plan.specs.Laws.Plan.{Planned, plan-parts}

@@ -9,7 +9,7 @@ use Rattle.output.proofs.builds.row_start.Statement.{statement}
 use Rattle.output.proofs.builds.row_start.Tie as tie
 use Rattle.output.proofs.builds.row_start.Reads as reads
 use Rattle.output.proofs.builds.row_start.Lts as lts
-use Rattle.refusal.proofs.lesser.Reads as lesser-reads
+use Rattle.prelude.proofs.lesser.Reads as lesser-reads
 
 returns : tie.Need-returns
 returns c =

@@ -1,10 +1,10 @@
 -- `in_profile` meets its contract: without a page size the map is as it is, with one it stands after what the profile says.
 use mathlib.Core.Path.{_≡_, refl, sym, ap, _∙_}
 use Prim.Native.Nat.{ℕ}
-use Rattle.refusal.specs.declared.Verdict.{Verdict}
-use Rattle.refusal.specs.declared.Verdict.the-variants.{Accepted, Refused}
+use Rattle.prelude.specs.declared.Verdict.{Verdict}
+use Rattle.prelude.specs.declared.Verdict.the-variants.{Accepted, Refused}
 use Rattle.bankdef.specs.declared.Bankdefs.{Bankdefs}
-use Rattle.lists.specs.Lists.{Lists, lists}
+use Rattle.nodes.specs.Lists.{Lists, lists}
 use Rattle.output.specs.Output.{Input, input}
 use Rattle.build_map.specs.declared.Map.{Map}
 use Rattle.build_profile.specs.Profile.{verdictOf, pagedBy, profileOf}

@@ -4,7 +4,7 @@ use Prim.Native.Nat.{ℕ}
 use native.Mathlib.Omega.{arith}
 use lib.ListN.{length, replicate, length-replicate}
 use lib.Seq.{length-take-le}
-use Rattle.refusal.specs.Limits.{maxNodes}
+use Rattle.prelude.specs.Limits.{maxNodes}
 use Rattle.print_map.proofs.Lines.{written-as}
 use Rattle.print_map.proofs.Read.{nodes-few, nodes-listed, nodes-fit, arrays-long, shown-fewer, read-text}
 use borrow.Author.Needs.{needs}

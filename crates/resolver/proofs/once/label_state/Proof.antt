@@ -3,7 +3,7 @@ use mathlib.Core.Path.{_≡_}
 use mathlib.Core.Bool.{false, _&&_}
 use mathlib.Core.Logic.{⊎-elim}
 use borrow.Author.Tests.{eq-eqb, ne-eqb}
-use Rattle.refusal.specs.Laws.Pick.{pick-true, pick-false}
+use Rattle.prelude.specs.Laws.Pick.{pick-true, pick-false}
 use Rattle.iter.specs.Address.{onBoundary}
 use Rattle.iter.specs.Pace.{seenBy}
 use Rattle.resolver.proofs.Going.{unsettled, unknown, label-resolved, label-first, label-same, label-moved, label-stopped}

@@ -7,12 +7,12 @@ use native.Mathlib.Omega.{arith}
 use lib.ListN.{length, length-map}
 use borrow.Author.Needs.{needs}
 use borrow.Author.Tests.{eq-eqb, ne-eqb}
-use Rattle.refusal.specs.Laws.Bools.{clash}
-use Rattle.refusal.specs.Laws.Pick.{pick-true, pick-false}
-use Rattle.refusal.specs.declared.Refusal.{Refusal}
+use Rattle.prelude.specs.Laws.Bools.{clash}
+use Rattle.prelude.specs.Laws.Pick.{pick-true, pick-false}
+use Rattle.prelude.specs.declared.Refusal.{Refusal}
 use Rattle.iter.specs.Pace.{seenBy}
 use Rattle.iter.specs.Step.{bankAfter}
-use Rattle.lists.specs.Lists.{Row, rowWith}
+use Rattle.nodes.specs.Lists.{Row, rowWith}
 use Rattle.resolver.specs.Laws.Stands.{both-stand, stands-in, one-of-sixteen, record-is, sees, stands-next}
 use Rattle.resolver.specs.Once.{Program, programWith, node, stepAt, passTo, walkTo, goesOn, on}
 use Rattle.resolver.specs.Stands.{Stands}

@@ -3,7 +3,7 @@ use mathlib.Core.Path.{_∙_, ap}
 use mathlib.Core.List.{[]}
 use native.Mathlib.Omega.{arith}
 use borrow.Author.Tests.{leb-true}
-use Rattle.lists.specs.Lists.{lists}
+use Rattle.nodes.specs.Lists.{lists}
 use Rattle.resolver.specs.Theorems.OneWalk.{resolved-again}
 use Rattle.resolver.specs.declared.Pass.the-variants.{State}
 use Rattle.resolver.proofs.passes.pass_after.Statement.{statement}

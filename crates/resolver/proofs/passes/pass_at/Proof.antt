@@ -3,7 +3,7 @@ use mathlib.Core.Path.{sym, _∙_}
 use mathlib.Core.List.{[]}
 use borrow.Author.Needs.{needs}
 use borrow.Author.Tests.{not-true}
-use Rattle.lists.specs.Lists.{Lists, lists}
+use Rattle.nodes.specs.Lists.{Lists, lists}
 use Rattle.resolver.proofs.Parts.{has-row, row-alone, row-beside, row-told}
 use Rattle.resolver.proofs.passes.pass_at.Statement.{statement}
 use Rattle.resolver.proofs.passes.pass_at.Tie as tie

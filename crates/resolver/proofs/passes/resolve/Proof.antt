@@ -1,7 +1,7 @@
 -- The banks' verdict, the lists' verdict, and the passes, which the accepted lists make sound.
 use mathlib.Core.Path.{sym, _∙_}
-use Rattle.lists.specs.Lists.{Lists, lists}
-use Rattle.lists.specs.Theorems.Sound.{accepted-lists}
+use Rattle.nodes.specs.Lists.{Lists, lists}
+use Rattle.nodes.specs.Theorems.Sound.{accepted-lists}
 use Rattle.resolver.proofs.Accepted.{banks-refused, lists-refused, both-accepted, layout-told}
 use borrow.Author.Needs.{needs}
 use Rattle.resolver.specs.Theorems.Switches.{accepted-switches}

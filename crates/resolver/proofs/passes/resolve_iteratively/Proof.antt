@@ -6,7 +6,7 @@ use mathlib.Core.List.{[]}
 use native.Mathlib.Omega.{arith}
 use borrow.Author.Needs.{needs}
 use Rattle.resolver.specs.Ends.{Unsettled}
-use Rattle.lists.specs.Lists.{Lists, lists}
+use Rattle.nodes.specs.Lists.{Lists, lists}
 use Rattle.resolver.specs.Passes.{passAt}
 use Rattle.resolver.specs.Laws.Repeats.{repeats}
 use Rattle.resolver.specs.declared.Pass.{Pass}

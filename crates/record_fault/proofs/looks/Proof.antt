@@ -1,6 +1,0 @@
--- `record_fault::looks`: both tests.
-use Rattle.record_fault.proofs.looks.Statement.{statement}
-use Rattle.record_fault.proofs.looks.Tie as tie
-
-pub looks-spec : {M : Type 1} → statement M
-looks-spec = tie.close (tie.spec (λ c. rw (c .if1 .taken)) (λ c. rw (c .if1 .left)))
