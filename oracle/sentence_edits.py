@@ -4,15 +4,18 @@
     oracle/sentence_edits.py [--inputs N]
 
 An edit of must-fail/ is refused by the check of its own crate, and crates/says has no theorem: there the sentences stand alone. So what a wrong sentence would
-say is seen by running it (tools/sentences) on inputs from a seed, N of them at most, until its outcomes differ from those of the sentence as it stands:
-another outcome, none, or more than one. Ends with 1 where a change is not seen, or where its text does not stand in its file once."""
+say is seen by running it (tools/sentences) on inputs from a seed, N of them at most, and on the edges of oracle/sentences_edges.py, until its outcomes differ
+from those of the sentence as it stands: another outcome, none, or more than one. Ends with 1 where a change is not seen, where its text does not stand in its
+file once, and where a sentence that was not changed seems to be."""
 import sys
+from itertools import chain
 
 import manners
 
 sys.path.insert(0, str(manners.ROOT / "tools"))
 from sentences.calls import Call  # noqa: E402
-from sentences.values import Floundered  # noqa: E402
+from sentences.values import Floundered, plain  # noqa: E402
+from sentences_edges import edges  # noqa: E402
 from sentences_inputs import inputs  # noqa: E402
 
 SAYS = manners.ROOT / "crates" / "says" / "specs"
@@ -33,7 +36,7 @@ EDITS = [
      "by-state : {i r : ℕ} → i < nodes → kind i ≤ 6"),
     ("a skip's whole units are rounded up", "dk_build", "Build",
      "(at .lost .units + d / unit b)", "(at .lost .units + (d + unit b - 1) / unit b)"),
-    ("on the way back a bank loses its flags with its fill bit", "dk_to_form1", "Convert", "EachBank (take 23) h d", "EachBank (take 22) h d"),
+    ("on the way back a bank loses its flags with its fill bit", "dk_to_form1", "Convert", "eachBank (take 23) h", "eachBank (take 22) h"),
     ("bank 0 of a converted one-bank file keeps the first byte of its size", "dk_to_form2", "Convert",
      "(take 10 (getD (h .banks) 0 []) ++ replicate 14 0)", "(take 11 (getD (h .banks) 0 []) ++ replicate 13 0)"),
     ("a form 2 file may use bank 0 where it is alone", "dk_form", "Form", "closes form-2 = 1", "closes form-2 = 0"),
@@ -44,7 +47,7 @@ EDITS = [
      "Shows n r (suc i) number place second i y", "Shows n r (suc i) number place second noNode y"),
     ("a list that has room for just the runs is too short", "dk_overlay_runs", "Overlay", "TooShort fs ns = (length firsts₀ < length fs)",
      "TooShort fs ns = (length firsts₀ ≤ length fs)"),
-    ("a byte counts as covered when seven of its bits are", "dk_overlay_range", "Overlay", "CoveredByte b = (k : ℕ) → 8 * b ≤ k → k < 8 * b + 8",
+    ("a byte counts as covered when seven of its bits are", "dk_overlay_runs", "Overlay", "CoveredByte b = (k : ℕ) → 8 * b ≤ k → k < 8 * b + 8",
      "CoveredByte b = (k : ℕ) → 8 * b ≤ k → k < 8 * b + 7"),
     ("a byte that is not given is passed over", "dk_verify", "Verify", "one : Missing b → Of b 1", "one : Missing b → Different b → Of b 1"),
     ("the last byte of a block is not given", "dk_verify", "Verify",
@@ -71,8 +74,8 @@ EDITS = [
 
 def outcomes(call, given):
     try:
-        return call.outcomes(given)
-    except Floundered:
+        return [plain(outcome) for outcome in call.outcomes(given)]
+    except (Floundered, RecursionError):
         return "cannot be run"
 
 
@@ -83,7 +86,7 @@ def seen(call, file, old, new, most):
     if text.count(old) != 1:
         return "its text does not stand in %s.antt once" % file
     right, wrong = Call(call, manners.ROOT / "crates"), Call(call, manners.ROOT / "crates", {path: text.replace(old, new)})
-    for n, given in enumerate(inputs(call, "edits", most), 1):
+    for n, given in enumerate(chain(inputs(call, "edits", most), edges(call)), 1):
         if outcomes(right, given) != outcomes(wrong, given):
             return n
     return 0
@@ -94,6 +97,9 @@ def main():
     parser.add_argument("--inputs", type=manners.some, default=1500)
     most = parser.parse_args().inputs
     unseen = 0
+    for call, file, old in {call: (call, file, old) for _, call, file, old, _ in EDITS}.values():
+        if seen(call, file, old, old, 3):
+            raise manners.Stop("%s: a difference is seen where nothing was changed" % call)
     for what, call, file, old, new in EDITS:
         found = seen(call, file, old, new, most)
         if not isinstance(found, int) or not found:

@@ -89,7 +89,8 @@ def shape(nodes):
 
 
 def convert_edges():
-    files = [shape(1), encoded(dict(touching(), fill_bits=[0, 1, 0]), 2)] + [encoded(one_bank(rows=r), form) for r in (16, 17) for form in (1, 2)]
+    sized = encoded(dict(one_bank(), bank_sizes=[2 ** 24 + 1]), 1)
+    files = [sized, shape(1), encoded(dict(touching(), fill_bits=[0, 1, 0]), 2)] + [encoded(one_bank(rows=r), form) for r in (16, 17) for form in (1, 2)]
     files += [of_length(n, 2, banks=2, flags=0) for n in (65005, 65006, 65007)]
     files += [encoded(one_bank(n), 1) for n in (4095, 4096)] + [encoded(one_bank(4096, banks=2, flags=0), form) for form in (1, 2)] + [shape(4096)]
     return [dict(file=x, out=[0] * 65536) for x in files + [encoded(one_bank(0, banks=n, flags=0), 1) for n in (2423, 2424, 2425)]]
