@@ -2,8 +2,8 @@
  * speak of; not to be edited. What follows this comment has the sum `text`, and what it was printed from has the sum
  * `sources` (sha256; tools/portable.sh says of what).
  *
- * sources: a30466cee0b08a827027bb5d23b3b97a9e92b6a3efb651f8af9fa4b81ef21d68
- * text: 68c712ad83f6a21217ee466dc53e22060c75e710129f84b538ef941d14fad917
+ * sources: 6293addbbb83ddd03e505503ab23d5cdfb6125aa76426a770e54962f2a907ced
+ * text: 85a3fca902f7da22f49deab0b0e644fb9bc84885367c759af0cfaa29e44053a9
  * kit: rattle-kit-5b-plain logic 097e4c862dff5811
  */
 #ifndef DENKUMARI_TEXTS_H
@@ -14,15 +14,15 @@
 
 typedef struct { const uint8_t *ptr; size_t len; } slice_u8;
 enum {
-    refusal__Opt_None = 0,
-    refusal__Opt_Some = 1
+    prelude__Opt_None = 0,
+    prelude__Opt_Some = 1
 };
 typedef struct {
     uint32_t tag;
     union {
         struct { uint32_t f0; } Some;
     } u;
-} refusal__Opt;
+} prelude__Opt;
 typedef struct { uint8_t *ptr; size_t len; } mut_u8;
 typedef struct {
     uint8_t format;
@@ -31,24 +31,24 @@ typedef struct {
 } print_records__Wanted;
 typedef struct { uint64_t *ptr; size_t len; } mut_u64;
 enum {
-    refusal__Refusal_BankCount = 0,
-    refusal__Refusal_BankNumber = 1,
-    refusal__Refusal_BanksOverlap = 2,
-    refusal__Refusal_Malformed = 3,
-    refusal__Refusal_PositionPast = 4,
-    refusal__Refusal_LabelOffBoundary = 5,
-    refusal__Refusal_Unresolved = 6,
-    refusal__Refusal_DefaultBank = 7,
-    refusal__Refusal_PastBank = 8,
-    refusal__Refusal_NoOutput = 9,
-    refusal__Refusal_Overlap = 10,
-    refusal__Refusal_StoreFull = 11,
-    refusal__Refusal_TooShort = 12,
-    refusal__Refusal_BadStore = 13,
-    refusal__Refusal_BadPart = 14,
-    refusal__Refusal_PartlyCovered = 15,
-    refusal__Refusal_FillBitDropped = 16,
-    refusal__Refusal_OffProfile = 17
+    prelude__Refusal_BankCount = 0,
+    prelude__Refusal_BankNumber = 1,
+    prelude__Refusal_BanksOverlap = 2,
+    prelude__Refusal_Malformed = 3,
+    prelude__Refusal_PositionPast = 4,
+    prelude__Refusal_LabelOffBoundary = 5,
+    prelude__Refusal_Unresolved = 6,
+    prelude__Refusal_DefaultBank = 7,
+    prelude__Refusal_PastBank = 8,
+    prelude__Refusal_NoOutput = 9,
+    prelude__Refusal_Overlap = 10,
+    prelude__Refusal_StoreFull = 11,
+    prelude__Refusal_TooShort = 12,
+    prelude__Refusal_BadStore = 13,
+    prelude__Refusal_BadPart = 14,
+    prelude__Refusal_PartlyCovered = 15,
+    prelude__Refusal_FillBitDropped = 16,
+    prelude__Refusal_OffProfile = 17
 };
 typedef struct {
     size_t tag;
@@ -67,7 +67,7 @@ typedef struct {
         struct { uint64_t f0; } BadStore;
         struct { uint64_t f0; uint64_t f1; } OffProfile;
     } u;
-} refusal__Refusal;
+} prelude__Refusal;
 enum {
     form_convert__Conversion_Converted = 0,
     form_convert__Conversion_Refused = 1
@@ -76,7 +76,7 @@ typedef struct {
     size_t tag;
     union {
         struct { uint64_t f0; } Converted;
-        struct { refusal__Refusal f0; } Refused;
+        struct { prelude__Refusal f0; } Refused;
     } u;
 } form_convert__Conversion;
 
@@ -84,19 +84,19 @@ typedef struct {
  * The report of a file, put at the front of `text`: how many bytes it is. There is room, so that the text is never
  * too short.
  */
-uint64_t layout__put_file(slice_u8 file, uint8_t fill, refusal__Opt page, mut_u8 text);
+uint64_t layout__put_file(slice_u8 file, uint8_t fill, prelude__Opt page, mut_u8 text);
 
 /* print_map::files::write_map:
  * The map's text of a file of either form, a fill's choice and a page size, if there is one, at the front of `out`,
  * which has room for any.
  */
-uint64_t print_map__files__write_map(slice_u8 file, uint8_t fill, refusal__Opt page, uint8_t *restrict out);
+uint64_t print_map__files__write_map(slice_u8 file, uint8_t fill, prelude__Opt page, uint8_t *restrict out);
 
 /* prog_records::put_file: The text of a file, put at the front of `out`: how many bytes it is. */
-uint64_t prog_records__put_file(print_records__Wanted wanted, slice_u8 file, uint8_t fill, refusal__Opt page,
+uint64_t prog_records__put_file(print_records__Wanted wanted, slice_u8 file, uint8_t fill, prelude__Opt page,
         mut_u8 out);
 
-/* print_rehex::put_file: The text of a file: its records, or why not. */
+/* print_rehex::put_file: The same, in rooms that every text fits into; nothing in other ones. */
 uint64_t print_rehex__put_file(uint8_t kind, uint8_t format, uint32_t load, slice_u8 source, mut_u8 bytes,
         mut_u64 offsets, mut_u64 sizes, mut_u8 out);
 
@@ -120,12 +120,12 @@ form_convert__Conversion form_convert__to_form2(slice_u8 file, mut_u8 out);
  * The same where it is known to fit: a refusal's line has at most 71 bytes, since its number has two digits at most
  * and each of a place twenty.
  */
-uint64_t print_text__write_refusal(mut_u8 out, uint64_t at, const refusal__Refusal *restrict why);
+uint64_t print_text__write_refusal(mut_u8 out, uint64_t at, const prelude__Refusal *restrict why);
 
 /* prog_args::number:
  * The number that a text spells in decimal digits, or in hexadecimal ones behind 0x, up to 4,294,967,295; none for
  * any other text, the empty one too.
  */
-refusal__Opt prog_args__number(slice_u8 text);
+prelude__Opt prog_args__number(slice_u8 text);
 
 #endif

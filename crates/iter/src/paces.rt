@@ -11,10 +11,17 @@ use nodes::Doing;
 use nodes::Node;
 use nodes::does;
 use nodes::reads_state;
+use prelude::ASSERT;
+use prelude::CONSTANT;
 use prelude::DATA;
+use prelude::INSTRUCTION;
+use prelude::LABEL;
+use prelude::NOTHING;
 use prelude::Opt;
+use prelude::RESERVE;
 use prelude::RESOLVED;
 use prelude::Refusal;
+use prelude::SWITCH;
 use prelude::UNRESOLVED;
 ghost use mathlib.Core.Path.{_≡_};
 ghost use mathlib.Core.Bool.{true, false};
@@ -226,23 +233,25 @@ fn aligns_no_label(def: Bankdef) -> bool
     }
 }
 
-// Whether a node leaves its bank's position as it finds it, and skips nothing, which most do: kinds 0, 1 and 10, and a symbol that is not "aligned first".
+// Whether a node leaves its bank's position as it finds it, and skips nothing, which most do: kinds 0, 1 and 10, and a symbol that is not "aligned first". This
+// and the next have ranges of kinds of their own: by `does`, `pace` is no longer put into its loops, and dk_build takes 1.76 times the instructions for labels.
 fn stands_still(def: Bankdef, node: Node) -> bool
     ensures { λ r. ⌜ (r ≡ true → Still def node) ⌝ }
 {
     if is_bad_state(node) {
         return false;
     }
-    match does(node.kind) {
-        Doing::Stays => true,
-        Doing::Switches => true,
-        Doing::Symbol => {
+    let kind = node.kind;
+    match kind {
+        NOTHING..=SWITCH => true,
+        LABEL..=CONSTANT => {
             if node.operand == 0 {
                 aligns_no_label(def)
             } else {
                 true
             }
         }
+        ASSERT => true,
         _ => false,
     }
 }
@@ -254,8 +263,9 @@ fn adds_number(node: Node) -> bool
     if is_bad_state(node) {
         return false;
     }
-    match does(node.kind) {
-        Doing::Adds => true,
+    let kind = node.kind;
+    match kind {
+        INSTRUCTION..=RESERVE => true,
         _ => false,
     }
 }

@@ -1,12 +1,12 @@
--- Each that stands still, by what its kind does, is a law of PaceLaws.
+-- Each kind that stands still is a law of PaceLaws.
 use borrow.Author.Needs.{needs}
+use Prim.Native.Nat.{_<_}
 use mathlib.Core.Path.{_≡_, refl, _∙_, sym}
 use mathlib.Core.Bool.{false}
 use native.Mathlib.Omega.{arith}
 use Rattle.prelude.specs.Laws.Bools.{clash}
-use Rattle.nodes.specs.Laws.Kinds.{numbers}
 use Rattle.iter.specs.Step.{badState}
-use Rattle.iter.proofs.PaceLaws.{stay-told, switch-told, mark-told, deeper, paces-plain, paces-unaligned, paces-stay, paces-switch}
+use Rattle.iter.proofs.PaceLaws.{early-plain, deeper, paces-plain, paces-unaligned, paces-assert}
 use Rattle.iter.proofs.paces.stands_still.Statement.{statement}
 use Rattle.iter.proofs.paces.stands_still.Tie as tie
 
@@ -18,28 +18,22 @@ returns : tie.Need-returns
 returns c e = absurd (clash e refl)
 
 returns-2 : tie.Need-returns-2
-returns-2 c e at =
-    let d = c .before .before in
-    paces-stay _ at _ (sound (d .before)) (stay-told (numbers _ (d .does .ensures) (c .enum-told .given .1))) refl
+returns-2 c e at = paces-assert _ at _ (sound (c .before)) (c .match .keys1) refl
 
 returns-3 : tie.Need-returns-3
 returns-3 c e at =
-    let d = c .before .before in
-    paces-switch _ at _ (sound (d .before)) (switch-told (numbers _ (d .does .ensures) (c .enum-told2 .given .1))) refl
+    let few : _ < 2 = c .if2 .taken in
+    paces-plain _ at _ (sound (c .before .before)) (early-plain (c .before .before .before .before .args .node) (c .if2 .taken)) (omega arith) refl
 
 returns-4 : tie.Need-returns-4
 returns-4 c e at =
     let t = c .before .before .before in
-    let d = t .before .before in
-    let n = mark-told (numbers (d .before .before .before .args .node .kind) (d .does .ensures) (t .enum-told3 .given .1)) in
-    paces-unaligned _ at _ (sound (d .before)) (c .aligns-no-label .ensures e) (omega (arith, n .1)) refl
+    paces-unaligned _ at _ (sound (t .before .before .before)) (c .aligns-no-label .ensures e) (t .if3 .taken) refl
 
 returns-5 : tie.Need-returns-5
 returns-5 c e at =
     let t = c .before .before in
-    let d = t .before .before in
-    let n = mark-told (numbers (d .before .before .before .args .node .kind) (d .does .ensures) (t .enum-told3 .given .1)) in
-    paces-plain _ at _ (sound (d .before)) (deeper (d .before .before .before .args .node) (c .if2 .left)) (omega (arith, n .1)) refl
+    paces-plain _ at _ (sound (t .before .before .before)) (deeper (t .before .before .before .before .before .args .node) (c .if4 .left)) (t .if3 .taken) refl
 
 returns-6 : tie.Need-returns-6
 returns-6 c e = absurd (clash e refl)
@@ -48,5 +42,4 @@ pub stands-still-spec : {M : Type 1} → statement M
 stands-still-spec =
     tie.close
     (tie.spec
-    (λ c κs. search needs) returns (λ c κs. search needs) (λ c. search needs) (λ c. search needs) (λ c. search needs) (λ c κs. search needs) returns-2
-    returns-3 returns-4 returns-5 returns-6)
+    (λ c κs. search needs) returns (λ c κs. search needs) returns-2 returns-3 returns-4 returns-5 returns-6)
