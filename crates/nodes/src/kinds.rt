@@ -1,5 +1,6 @@
-// What a kind does, told once: no other file has a range of kinds. "Kinds: 0 nothing, 1 bank switch, 2 label, 3 constant, 4 instruction, 5 data of declared
-// size, 6 data of open size, 7 reserve, 8 align, 9 addr, 10 assert." "Any other kind number is refused."
+// What a kind does, told once: beside it only the two quick tests of the step (crates/iter/src/paces.rt) have ranges of kinds, for speed. "Kinds: 0 nothing,
+// 1 bank switch, 2 label, 3 constant, 4 instruction, 5 data of declared size, 6 data of open size, 7 reserve, 8 align, 9 addr, 10 assert." "Any other kind
+// number is refused."
 use crate::Node;
 use prelude::ADDR;
 use prelude::ALIGN;
