@@ -8,8 +8,8 @@ const struct option options[OPTIONS] = {
 };
 
 static uint32_t number(const char *name, const char *word) {
-    refusal__Opt n = prog_args__number((slice_u8){(const uint8_t *)word, strlen(word)});
-    if (n.tag != refusal__Opt_Some) fail("%s takes a number up to 4294967295, decimal or in hex after 0x, not '%s'", name, escaped(word));
+    prelude__Opt n = prog_args__number((slice_u8){(const uint8_t *)word, strlen(word)});
+    if (n.tag != prelude__Opt_Some) fail("%s takes a number up to 4294967295, decimal or in hex after 0x, not '%s'", name, escaped(word));
     return n.u.Some.f0;
 }
 

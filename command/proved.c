@@ -13,8 +13,8 @@ static uint64_t offsets[BLOCKS], sizes[BLOCKS], more_offsets[BLOCKS], more_sizes
 static slice_u8 lent(struct bytes b) { return (slice_u8){b.at, b.len}; }
 static struct bytes first_of(const uint8_t *at, uint64_t n) { return (struct bytes){at, (size_t)n}; }
 
-static refusal__Opt page_of(const struct asked *asked) {
-    refusal__Opt page = {.tag = asked->given & PAGE ? refusal__Opt_Some : refusal__Opt_None};
+static prelude__Opt page_of(const struct asked *asked) {
+    prelude__Opt page = {.tag = asked->given & PAGE ? prelude__Opt_Some : prelude__Opt_None};
     page.u.Some.f0 = asked->page;
     return page;
 }

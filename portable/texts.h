@@ -2,7 +2,7 @@
  * speak of; not to be edited. What follows this comment has the sum `text`, and what it was printed from has the sum
  * `sources` (sha256; tools/portable.sh says of what).
  *
- * sources: 6293addbbb83ddd03e505503ab23d5cdfb6125aa76426a770e54962f2a907ced
+ * sources: 92c23156d94bdaf9206ce632736175fed8f5bf42a254105f4b963966e0273543
  * text: 85a3fca902f7da22f49deab0b0e644fb9bc84885367c759af0cfaa29e44053a9
  * kit: rattle-kit-5b-plain logic 097e4c862dff5811
  */
