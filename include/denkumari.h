@@ -239,7 +239,7 @@ struct dk_profile dk_profile(uint32_t page,
                              uint8_t fill);
 
 /* dk_build and dk_form in the profile of a device with pages of `page` bits: what dk_profile refuses is refused so, with no pass run; everything else is as
- * without a profile. They need less than 28 KiB and 136 KiB of stack (23.9 and 129.0 KiB). */
+ * without a profile. They need less than 28 KiB and 136 KiB of stack (23.9 and 128.9 KiB). */
 struct dk_layout dk_build_paged(uint32_t page,
                                 const uint16_t *units, size_t units_len,
                                 const int64_t *starts, size_t starts_len,
