@@ -1,4 +1,6 @@
 // The bank record and the table of banks: refusals 1, 2 and 3, and the fill's length.
+#![tactic(auto)]
+
 ghost use Rattle.std.specs.Prelude.{◌≡◌, ◌+◌, ◌≤◌, ◌<◌, eqb, ltb, nat_abs, take, drop, get_or};
 ghost use Rattle.prelude.specs.Limits.{max_banks, max_offer};
 ghost use Rattle.prelude.specs.Pick.{pick};
@@ -15,7 +17,7 @@ use prelude::{MAX_BANKS, MAX_START, Opt, Refusal, Verdict};
 // A bank: address unit in bits, start address, and, each optional, size in bits, output offset and label alignment; and
 // whether its range is filled, and with which bit (Ticket 6). The types carry document 01's limits, but for a unit of 0 and the
 // start's range; the fill bit is 0 or 1.
-#[derive(Drop)]
+#[derive(Clone, Copy)]
 pub struct Bankdef {
     pub unit: u16,
     pub start: i64,
@@ -27,7 +29,7 @@ pub struct Bankdef {
 }
 
 // The table: the first `len` of `defs`, bank 0 included.
-#[derive(Drop)]
+#[derive(Clone, Copy)]
 pub struct Bankdefs {
     pub defs: [Bankdef; 16],
     pub len: u64,

@@ -1,4 +1,6 @@
 // Bits of lent bytes: an image is cleared and written, printed in hex, and handed out in parts. Bits run from the top of each byte.
+#![tactic(auto)]
+
 ghost use Rattle.std.specs.Prelude.{◌≡◌, ◌++◌, ◌+◌, ◌*◌, ◌/◌, ◌^◌, ◌≤◌, ◌<◌, min, length, drop};
 ghost use Rattle.bitvec.specs.Within.{ends_within};
 ghost use Rattle.bitvec.specs.Clear.{Clears};
@@ -14,7 +16,7 @@ ghost use Rattle.bitvec.specs.Steps.{spliced, Completes};
 use prelude::{Refusal, Verdict};
 
 // What printing answers: how many digits were written, or why none was.
-#[derive(Drop)]
+#[derive(Clone, Copy)]
 pub enum Hex {
     Digits(u64),
     Refused(Refusal),

@@ -1,5 +1,7 @@
 // The blocks of an output: its spans, taken by offset, joined where one starts at the end of those before it. The port of
 // `BitVec::get_blocks`.
+#![tactic(auto)]
+
 ghost use Rattle.std.specs.Prelude.{◌≡◌, true, ◌+◌, ◌≤◌, ◌<◌, ◌^◌, length, set};
 ghost use Rattle.prelude.specs.Limits.{max_nodes};
 ghost use Rattle.blocks.specs.Numbered.{Walkable, numbered_blocks};
@@ -12,14 +14,14 @@ ghost use Rattle.blocks.specs.Outcome.{Written, Contract};
 use prelude::{MAX_OFFER, MAX_POSITION, Offset, Refusal};
 
 // A run of bits in the output, running or written: the Rust's `BitVecBlock`, with its `current_origin` and `current_size`.
-#[derive(Drop)]
+#[derive(Clone, Copy)]
 pub struct Block {
     pub origin: u64,
     pub size: u64,
 }
 
 // How many blocks were written, or why none.
-#[derive(Drop)]
+#[derive(Clone, Copy)]
 pub enum Blocks {
     Found(u64),
     Refused(Refusal),

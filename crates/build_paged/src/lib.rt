@@ -1,4 +1,6 @@
 // "A build in the profile is the ordinary build after a yes."
+#![tactic(auto)]
+
 ghost use Rattle.std.specs.Prelude.{◌≡◌};
 ghost use Rattle.nodes.specs.Lists.{lists};
 ghost use Rattle.output.specs.Output.{input, lent, refused_after};

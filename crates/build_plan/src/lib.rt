@@ -1,4 +1,6 @@
 // The first walk over a row, which decides everything and writes nothing: refusals 9 to 13, the image's length, the spans and the padding.
+#![tactic(auto)]
+
 mod checks;
 
 ghost use Rattle.std.specs.Prelude.{◌≡◌, true, ℕ, ◌+◌, ◌≤◌, length};
@@ -192,7 +194,7 @@ fn spans_after(node: Node, spans: u64) -> u64
 }
 
 // The image's length and the number of spans, so far.
-#[derive(Drop)]
+#[derive(Clone, Copy)]
 pub struct Sums {
     pub length: u64,
     pub spans: u64,
@@ -222,7 +224,7 @@ fn sums_after(node: Node, out: Offset, sums: Sums) -> Sums
 }
 
 // What the first walk finds: the verdict on all nodes, and the image's length, the number of spans and each bank's padding. Refused, zeros.
-#[derive(Drop)]
+#[derive(Clone, Copy)]
 pub struct Plan {
     pub verdict: Verdict,
     pub length: u64,
@@ -254,7 +256,7 @@ fn none_stored() -> Offered
 }
 
 // The first walk over a row, how many nodes it met, one that is refused among them, and what it leaves, handed back by value.
-#[derive(Drop)]
+#[derive(Clone, Copy)]
 struct Planned {
     plan: Plan,
     met: u64,
@@ -392,7 +394,7 @@ pub fn plan_row(
 }
 
 // What the first walk comes to alone: the verdict on all nodes, and how many it met, one that is refused among them.
-#[derive(Drop)]
+#[derive(Clone, Copy)]
 pub struct Met {
     pub verdict: Verdict,
     pub nodes: u64,

@@ -1,4 +1,6 @@
 // The profile of the paged device: six rules that a layout keeps before it is built, and the pages of each bank.
+#![tactic(auto)]
+
 mod rules;
 
 ghost use Rattle.std.specs.Prelude.{◌≡◌, ◌≤◌, ◌<◌};
@@ -15,7 +17,7 @@ use resolver::Choices;
 pub const NO_PAGES: u64 = 18_446_744_073_709_551_615;
 
 // Whether a layout keeps the profile, or why not; and, where it does, the pages of each bank, by its number.
-#[derive(Drop)]
+#[derive(Clone, Copy)]
 pub struct Paged {
     pub verdict: Verdict,
     pub pages: [u64; 16],

@@ -1,11 +1,13 @@
 // What the build sees of each node in turn, in the row of the last pass.
+#![tactic(auto)]
+
 use bankdef::Bankdef;
 use iter::{Moved, Walk};
 use nodes::Node;
 use prelude::Offset;
 
 // A node, the bank that it stands in, the position that it sees, where that is in the output, and the walk after it.
-#[derive(Drop)]
+#[derive(Clone, Copy)]
 pub struct Visit {
     pub node: Node,
     pub bank: u64,

@@ -8,7 +8,7 @@ use bankdef::{Bankdef, Bankdefs};
 use prelude::Opt;
 
 // Where a bank's fill bits are ones, up to the image's length: from one bit to before another.
-#[derive(Drop)]
+#[derive(Clone, Copy)]
 pub struct Ones {
     pub from: u64,
     pub end: u64,

@@ -1,4 +1,6 @@
 // The second walk over a row, which writes: the image's bits and the spans, once everything is decided.
+#![tactic(auto)]
+
 mod blank;
 
 ghost use Rattle.std.specs.Prelude.{◌≡◌, true, ◌+◌, ◌<◌, length, set};

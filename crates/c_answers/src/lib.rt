@@ -1,5 +1,7 @@
 // Answers as plain numbers, for callers in other languages: structs of numbers, which the exported functions return, and for each answer of the
 // library a function that makes one of it.
+#![tactic(auto)]
+
 mod counts;
 mod layouts;
 mod maps;
@@ -21,7 +23,7 @@ use prelude::Place;
 // place, 0 where it has none. `passes` is how many passes ran. `k`, `length` and `spans` are 0 where it was refused. `padding` has the bits
 // of each bank that were lost to alignment in the last pass, and the whole address units, zeros where it was refused.
 #[repr(C)]
-#[derive(Drop)]
+#[derive(Clone, Copy)]
 pub struct DkLayout {
     pub refusal: u64,
     pub place: u64,
@@ -37,7 +39,7 @@ pub struct DkLayout {
 // layout is refused and the map is not, with the refusal's `place` and `second`. `node` is the node at fault, the largest number for none. `passes` is how many
 // passes ran, `nodes` how many nodes are shown, from node 0 on, and `padding` the bits and the whole units that these lost to alignment in each bank.
 #[repr(C)]
-#[derive(Drop)]
+#[derive(Clone, Copy)]
 pub struct DkMap {
     pub refusal: u64,
     pub stopped: u64,
@@ -52,7 +54,7 @@ pub struct DkMap {
 // What the profile says of a layout. `refusal` is 0 where it is kept, and then `pages` has the pages of each bank, the largest number for none;
 // else the refusal's number, with its place, and zeros.
 #[repr(C)]
-#[derive(Drop)]
+#[derive(Clone, Copy)]
 pub struct DkProfile {
     pub refusal: u64,
     pub place: u64,
@@ -63,7 +65,7 @@ pub struct DkProfile {
 // The answer to an offer. `refusal` is 0 where it was accepted, else document 01's number; then `place` and `second` are its place, 0 where
 // it has none. `count` and `marks` are how many intervals and marks are stored afterwards; refused, the counts given.
 #[repr(C)]
-#[derive(Drop)]
+#[derive(Clone, Copy)]
 pub struct DkOffer {
     pub refusal: u64,
     pub place: u64,
@@ -75,7 +77,7 @@ pub struct DkOffer {
 // The answer to a list of offers: that of the offer that was refused, and its number, from 0; where all were accepted, how many there are. `count` and `marks`
 // are as an offer's answer has them.
 #[repr(C)]
-#[derive(Drop)]
+#[derive(Clone, Copy)]
 pub struct DkOffered {
     pub refusal: u64,
     pub place: u64,
@@ -87,7 +89,7 @@ pub struct DkOffered {
 
 // The answer of a call that writes a list: how many things it wrote, or its refusal.
 #[repr(C)]
-#[derive(Drop)]
+#[derive(Clone, Copy)]
 pub struct DkCount {
     pub refusal: u64,
     pub place: u64,
@@ -96,7 +98,7 @@ pub struct DkCount {
 
 // A part of an image: where it starts and how long it is, in bytes, or its refusal.
 #[repr(C)]
-#[derive(Drop)]
+#[derive(Clone, Copy)]
 pub struct DkPart {
     pub refusal: u64,
     pub start: u64,
@@ -106,7 +108,7 @@ pub struct DkPart {
 // Where a range comes from: `image` is 1 for the overlay, 2 for the released image; where it starts and how long it is, in bytes; or
 // its refusal, and then all else is 0.
 #[repr(C)]
-#[derive(Drop)]
+#[derive(Clone, Copy)]
 pub struct DkOverlay {
     pub refusal: u64,
     pub image: u64,
@@ -117,7 +119,7 @@ pub struct DkOverlay {
 // Where the bytes of a file stand: the lowest address that it gives a byte to and the first behind the highest, both 0 where it gives none; or
 // its refusal, and then both are 0 too.
 #[repr(C)]
-#[derive(Drop)]
+#[derive(Clone, Copy)]
 pub struct DkExtent {
     pub refusal: u64,
     pub lowest: u64,
@@ -126,7 +128,7 @@ pub struct DkExtent {
 
 // Where a file is at fault: `fault` is 1 and `line` the first line at which no good file can go on, from 0; or both are 0.
 #[repr(C)]
-#[derive(Drop)]
+#[derive(Clone, Copy)]
 pub struct DkFault {
     pub fault: u64,
     pub line: u64,
@@ -134,7 +136,7 @@ pub struct DkFault {
 
 // The line at fault of a file of records, from 0, and why: a reason, 0 where the file is good, and the two numbers that go with it.
 #[repr(C)]
-#[derive(Drop)]
+#[derive(Clone, Copy)]
 pub struct DkReason {
     pub reason: u64,
     pub line: u64,

@@ -1,4 +1,6 @@
 // A table of banks that is lent as lists of numbers, one for each field, and what a caller chooses in numbers.
+#![tactic(auto)]
+
 ghost use Rattle.std.specs.Prelude.{◌≡◌, ◌++◌, ◌-◌, ◌≤◌, min, length, replicate};
 ghost use Rattle.bankdef.specs.Check.{no_bank};
 ghost use Rattle.c_tables.specs.Tables.{unit_of, bank_of, given, banks_in, agree, table_of, choices_by};

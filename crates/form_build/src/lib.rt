@@ -1,4 +1,6 @@
 // A layout file, laid out: what it says goes to the build. The way from a file to its build stands here once.
+#![tactic(auto)]
+
 ghost use Rattle.std.specs.Prelude.{◌≡◌, ◌*◌, ◌≤◌, length, take};
 ghost use Rattle.form_fields.specs.Shape.{form_of};
 ghost use Rattle.form_fields.specs.Lists.{kinds_of, operands_of, numbers_of, states_of};

@@ -1,4 +1,6 @@
 // The converter between the forms of a layout file: from lent bytes into a lent buffer, either way.
+#![tactic(auto)]
+
 ghost use Rattle.std.specs.Prelude.{◌≡◌, ◌+◌, ◌*◌, ◌≤◌, max, length};
 ghost use Rattle.bankdef.specs.Search.{first_where};
 ghost use Rattle.form_fields.specs.Kind.{form1, form2};
@@ -15,7 +17,7 @@ use form_rewrite::{write1, write2};
 use prelude::{MAX_NODES, MAX_ROWS, Refusal};
 
 // How long the converted file is, or why there is none.
-#[derive(Drop)]
+#[derive(Clone, Copy)]
 pub enum Conversion {
     Converted(u64),
     Refused(Refusal),

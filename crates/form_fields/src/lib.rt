@@ -1,4 +1,6 @@
 // A layout file of either form, read: where things stand in a lent file, and which file is broken.
+#![tactic(auto)]
+
 ghost use Rattle.std.specs.Prelude.{◌≡◌, ◌+◌, ◌*◌, ◌<◌, ◌≤◌, leb, length};
 ghost use Rattle.form_fields.specs.Words.{word16};
 ghost use Rattle.form_fields.specs.Banks.{is_set, opt_of};
@@ -26,7 +28,7 @@ pub const TAG_BANK_2: u8 = 17;
 
 // What differs between the forms: a form's number, how many fields stand ahead of the banks, a bank's tag and how long its
 // payload is, and the longest file.
-#[derive(Drop)]
+#[derive(Clone, Copy)]
 pub struct Kind {
     pub form: u8,
     pub heads: u64,
@@ -37,7 +39,7 @@ pub struct Kind {
 
 // Where things stand in a sound file: its form, how many banks, nodes and rows there are, where the value bytes start and how
 // many they are, and the pass limit.
-#[derive(Drop)]
+#[derive(Clone, Copy)]
 pub struct Shape {
     pub form: u8,
     pub banks: u64,
@@ -49,14 +51,14 @@ pub struct Shape {
 }
 
 // A file is sound, or broken at a field.
-#[derive(Drop)]
+#[derive(Clone, Copy)]
 pub enum Form {
     Sound(Shape),
     Broken(Refusal),
 }
 
 // How many fields of a kind stand one behind the other, and where the last of them ends.
-#[derive(Drop)]
+#[derive(Clone, Copy)]
 pub struct Run {
     pub count: u64,
     pub end: usize,

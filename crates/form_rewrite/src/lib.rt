@@ -1,4 +1,6 @@
 // A layout file written in the other form: field by field, from lent bytes into a lent buffer that it fits into.
+#![tactic(auto)]
+
 ghost use Rattle.std.specs.Prelude.{true, ◌≡◌, [], ◌∷◌, ◌++◌, ◌+◌, ◌*◌, ◌<◌, ◌≤◌, length};
 ghost use Rattle.form_fields.specs.Kind.{form1, form2};
 ghost use Rattle.form_fields.specs.Columns.{column};

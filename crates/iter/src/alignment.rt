@@ -9,7 +9,7 @@ use bankdef::{Bankdef, magnitude};
 use prelude::Refusal;
 
 // An address in bits, on its side of 0: so many bits before it, or from it on.
-#[derive(Drop)]
+#[derive(Clone, Copy)]
 pub enum InBits {
     Below(u64),
     At(u64),

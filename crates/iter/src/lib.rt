@@ -1,5 +1,7 @@
 // Where each node of the list stands: the distance to an alignment, the address, the output position, and the walk that goes
 // from node to node with a position for each bank.
+#![tactic(auto)]
+
 mod alignment;
 mod paces;
 mod places;
@@ -12,7 +14,7 @@ use prelude::Refusal;
 pub use steps::{bank_after, lost_after, start};
 
 // A bank's position in bits, and whether it is known: the Rust's `BankData`.
-#[derive(Drop)]
+#[derive(Clone, Copy)]
 pub struct Pos {
     pub position: u32,
     pub known: bool,
@@ -20,7 +22,7 @@ pub struct Pos {
 
 // What a bank has lost to alignment so far: the bits, and the whole address units, each skip's rounded down by itself.
 #[repr(C)]
-#[derive(Drop)]
+#[derive(Clone, Copy)]
 pub struct Lost {
     pub bits: u64,
     pub units: u64,
@@ -28,7 +30,7 @@ pub struct Lost {
 
 // The walk's state, handed in and back by value: "bank positions, an array of 16 in the walk's state", what each bank has lost to
 // alignment so far, and the bank that the walk stands in.
-#[derive(Drop)]
+#[derive(Clone, Copy)]
 pub struct Walk {
     pub at: [Pos; 16],
     pub lost: [Lost; 16],
@@ -36,35 +38,35 @@ pub struct Walk {
 }
 
 // What a distance skips: its bits, and "the count of whole address units" in them.
-#[derive(Drop)]
+#[derive(Clone, Copy)]
 pub struct Skipped {
     pub bits: u32,
     pub units: u32,
 }
 
 // The distance to an alignment.
-#[derive(Drop)]
+#[derive(Clone, Copy)]
 pub enum Distance {
     Skips(Skipped),
     Refused(Refusal),
 }
 
 // An address in whole units.
-#[derive(Drop)]
+#[derive(Clone, Copy)]
 pub enum Address {
     At(i64),
     Refused(Refusal),
 }
 
 // A position that a node sees, or moves to.
-#[derive(Drop)]
+#[derive(Clone, Copy)]
 pub enum Moved {
     To(Pos),
     Refused(Refusal),
 }
 
 // A position that a node sees or moves to, and what is skipped on the way. Refused, nothing is.
-#[derive(Drop)]
+#[derive(Clone, Copy)]
 pub struct Motion {
     pub to: Moved,
     pub skipped: Skipped,
@@ -72,7 +74,7 @@ pub struct Motion {
 
 // A node crossed in the bank that it stands in: the position that it sees, what its alignment skips, and the bank's position after it.
 // Refused, nothing is skipped and the position is the one given.
-#[derive(Drop)]
+#[derive(Clone, Copy)]
 pub struct Crossing {
     pub seen: Moved,
     pub skipped: Skipped,
@@ -81,7 +83,7 @@ pub struct Crossing {
 
 // A step in numbers, which a loop stores into its own walk: 0, or the number of what the node is refused for, 4 or 5; the position that it sees, its
 // bank's position after it, and what its alignment skips. Refused, nothing is skipped and the position is the one given.
-#[derive(Drop)]
+#[derive(Clone, Copy)]
 pub struct Paced {
     pub fault: u8,
     pub seen: Pos,
@@ -91,7 +93,7 @@ pub struct Paced {
 
 // A step of the walk: the position that the node sees, what its alignment skips, and the walk after it. Refused, nothing is
 // skipped and the walk is the walk given.
-#[derive(Drop)]
+#[derive(Clone, Copy)]
 pub struct Stepped {
     pub seen: Moved,
     pub skipped: Skipped,

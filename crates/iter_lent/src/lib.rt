@@ -1,4 +1,6 @@
 // The advance over a lent record: "A bank's position record is lent to the advance and updated there".
+#![tactic(auto)]
+
 ghost use Rattle.std.specs.Prelude.{◌≡◌};
 ghost use Rattle.iter_lent.specs.Lent.{left_by, Advanced};
 
@@ -7,7 +9,7 @@ use iter::{Paced, Pos};
 use nodes::Node;
 
 // What an advance leaves behind: the record, and the step's numbers.
-#[derive(Drop)]
+#[derive(Clone, Copy)]
 struct Left {
     at: Pos,
     step: Paced,

@@ -3,6 +3,8 @@
 //     layout [FILL [PAGE]]    FILL is the fill's choice, 0 where it is not given; PAGE the page size in bits of a device with pages
 //
 // It writes nothing where an argument is no number, or where there are more.
+#![tactic(auto)]
+
 ghost use Rattle.std.specs.Prelude.{◌≤◌, length, take};
 ghost use Rattle.print_report.specs.Room.{report_room};
 ghost use Rattle.says.specs.Lines.{Shows};
@@ -19,7 +21,7 @@ const FILE: usize = 65_537;
 const TEXT: usize = 163_840;
 
 // How many bytes were read, and how many handed on.
-#[derive(Drop)]
+#[derive(Clone, Copy)]
 pub struct Ran {
     read: usize,
     shown: usize,

@@ -10,7 +10,7 @@ use prelude::{
 };
 
 // What a kind does with its bank's position: a symbol may be "aligned first", "4 to 7 add their number, 8 adds the distance to alignment, 9 sets the position".
-#[derive(Drop)]
+#[derive(Clone, Copy)]
 pub enum Doing {
     Stays,
     Switches,

@@ -1,4 +1,6 @@
 // The lent lists: a node as a row shows it, and the list check.
+#![tactic(auto)]
+
 mod kinds;
 
 ghost use Rattle.std.specs.Prelude.{◌≡◌, ◌&&◌, ◌||◌, ◌<◌, ltb, get_or, length};
@@ -10,7 +12,7 @@ pub use kinds::{Doing, does, is_placed, is_span, is_unknown, is_written, reads_s
 use prelude::{DATA, MAX_NODES, MAX_ROWS, Refusal, SWITCH, Verdict};
 
 // A node as a row shows it: its number in the list, kind, operand, and the row's number and state for it.
-#[derive(Drop)]
+#[derive(Clone, Copy)]
 pub struct Node {
     pub index: u64,
     pub kind: u8,

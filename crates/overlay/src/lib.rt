@@ -1,5 +1,7 @@
 // On the bench: the released image and a small overlay of curves under trial, both at the same offsets. A byte range is answered from
 // one of the two, and the bytes at which the overlay changes something are listed.
+#![tactic(auto)]
+
 ghost use Rattle.std.specs.Prelude.{◌≡◌, true, false, ◌+◌, ◌-◌, ◌/◌, ◌≤◌, ◌<◌, min, leb, eqb, length};
 ghost use Rattle.blocks.specs.Put.{Put};
 ghost use Rattle.overlay.specs.Cover.{covered_bit};
@@ -13,7 +15,7 @@ ghost use Rattle.overlay.specs.Steps.{Finds, Chain};
 use prelude::Refusal;
 
 // Which of the two images a range comes from, or why from none.
-#[derive(Drop)]
+#[derive(Clone, Copy)]
 pub enum Source {
     Overlay,
     Released,
@@ -21,7 +23,7 @@ pub enum Source {
 }
 
 // How many runs were listed, or why none.
-#[derive(Drop)]
+#[derive(Clone, Copy)]
 pub enum Listed {
     Runs(u64),
     Refused(Refusal),

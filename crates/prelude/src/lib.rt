@@ -1,5 +1,7 @@
 // The numbers a caller gets back, the limits, and the two-case answers that stand for the Rust's `Option`. Every crate of the
 // layout speaks of these through this one.
+#![tactic(auto)]
+
 ghost use Rattle.std.specs.Prelude.{◌≡◌, ◌&&◌, min, max};
 ghost use Rattle.prelude.specs.Refusals.{number_of, place_of};
 
@@ -51,21 +53,21 @@ pub const STABLE: u8 = 1;
 pub const UNRESOLVED: u8 = 2;
 
 // A bank's number that may be absent: the Rust's `Option<usize>` in a bank.
-#[derive(Drop)]
+#[derive(Clone, Copy)]
 pub enum Opt {
     None,
     Some(u32),
 }
 
 // A position in the output, or none: the Rust's `Option<usize>` of a span.
-#[derive(Drop)]
+#[derive(Clone, Copy)]
 pub enum Offset {
     None,
     At(u64),
 }
 
 // Why a call was refused. A case carries its place; one that carries nothing has place 0.
-#[derive(Drop)]
+#[derive(Clone, Copy)]
 pub enum Refusal {
     BankCount,
     BankNumber(u64),
@@ -88,14 +90,14 @@ pub enum Refusal {
 }
 
 // Whether a call is refused, where nothing else is to be said.
-#[derive(Drop)]
+#[derive(Clone, Copy)]
 pub enum Verdict {
     Accepted,
     Refused(Refusal),
 }
 
 // A refusal's place: two banks, a stored start and size, a rule and its bank or node, or one number.
-#[derive(Drop)]
+#[derive(Clone, Copy)]
 pub enum Place {
     One(u64),
     Two(u64, u64),

@@ -1,4 +1,6 @@
 // The text of a build's answer: the blocks of its spans, the image's hex digits, and the lines of them, or a refusal's.
+#![tactic(auto)]
+
 ghost use Rattle.std.specs.Prelude.{◌≡◌, true, ◌+◌, ◌*◌, ◌/◌, ◌<◌, ◌≤◌, length};
 ghost use Rattle.prelude.specs.Limits.{max_nodes};
 ghost use Rattle.bitvec.specs.HexDigits.{hex_of, digit_count};

@@ -6,6 +6,8 @@
 // A file's image goes from the load address to the end of its last block, and no byte is shown that a file does not give. A refusal is one line, `refused` with
 // its number and place. Where a file was refused, one more says which, and one more the line at fault, from 0, if there is one; where a range was, one more
 // says which file does not give which address of it.
+#![tactic(auto)]
+
 ghost use Rattle.std.specs.Prelude.{◌≡◌, ◌+◌, ◌/◌, ◌≤◌, min, max, length};
 ghost use Rattle.io.specs.Counts.{IsPrefixLen};
 ghost use Rattle.overlay.specs.Trial.{trial};
@@ -41,7 +43,7 @@ const RUNS: usize = 65_536;
 const TEXT: usize = 3_801_600;
 
 // What is asked: every run, or a range by its address and its count of bytes.
-#[derive(Drop)]
+#[derive(Clone, Copy)]
 pub enum Asked {
     Runs,
     Range(u32, u32),

@@ -1,4 +1,6 @@
 // A layout file's image as a file of records for the flash station: what the program behind tools/ihex and tools/srec prints.
+#![tactic(auto)]
+
 ghost use Rattle.std.specs.Prelude.{◌≡◌, true, ◌*◌, ◌≤◌, min, length};
 ghost use Rattle.prelude.specs.Limits.{max_nodes};
 ghost use Rattle.blocks.specs.Spans.{spans_of, acceptable};
@@ -21,7 +23,7 @@ const TEXT: usize = 131_072;
 
 // What is asked for: the format, 0 for Intel HEX and 2 or 4 for S-records of that address width; the address of the image's first byte; the whole image with
 // its fill, or the blocks.
-#[derive(Drop)]
+#[derive(Clone, Copy)]
 pub struct Wanted {
     pub format: u8,
     pub load: u32,

@@ -1,4 +1,6 @@
 // The text of a file of records, turned to records of the kind that is asked for: the same bytes at the same addresses, or why not.
+#![tactic(auto)]
+
 ghost use Rattle.std.specs.Prelude.{◌++◌, ◌≡◌, ◌≤◌, length};
 ghost use Rattle.print_text.specs.Lines.{refusal_text};
 ghost use Rattle.print_text.specs.Puts.{Puts};

@@ -1,4 +1,6 @@
 // What the program prints for a file: its layout built, and the text of the build's answer.
+#![tactic(auto)]
+
 ghost use Rattle.std.specs.Prelude.{◌≡◌, length};
 ghost use Rattle.print_text.specs.Puts.{Puts};
 ghost use Rattle.print_answer.specs.Answer.{image_room};

@@ -1,5 +1,7 @@
 // The printed text, written into a lent buffer: a call answers where its text ends, and text that does not fit leaves the buffer
 // as it was. Room is measured first, then written.
+#![tactic(auto)]
+
 ghost use Rattle.std.specs.Prelude.{◌≡◌, [], ◌∷◌, ◌+◌, ◌<◌, ◌≤◌, min, leb, length};
 ghost use Rattle.print_text.specs.Decimal.{digit, decimal};
 ghost use Rattle.print_text.specs.Puts.{end_of, Writes, Puts};
@@ -8,7 +10,7 @@ ghost use Rattle.print_text.specs.Lines.{block_word, spaced, line, passes_text, 
 use prelude::{Place, Refusal};
 
 // Where the text ends in the buffer, or that the buffer is too short for it.
-#[derive(Drop)]
+#[derive(Clone, Copy)]
 pub enum Written {
     To(usize),
     TooShort,

@@ -1,4 +1,6 @@
 // What the programs share: numbers on the command line, and what they print.
+#![tactic(auto)]
+
 ghost use Rattle.std.specs.Prelude.{◌≡◌, ◌+◌, ◌*◌, ◌≤◌, min, length, drop};
 ghost use Rattle.io.specs.Counts.{IsPrefixLen};
 ghost use Rattle.prelude.specs.Limits.{max_position};

@@ -1,11 +1,13 @@
 // What the words on a command line ask for: a choice as a byte, and the fill and the page size of the programs that lay out a file.
+#![tactic(auto)]
+
 ghost use Rattle.std.specs.Prelude.{◌≡◌, min};
 ghost use Rattle.prog_asked.specs.Asked.{AskedBy};
 
 use prelude::Opt;
 
 // What is asked for: nothing, or a layout's text.
-#[derive(Drop)]
+#[derive(Clone, Copy)]
 pub enum Asked {
     Nothing,
     Layout { fill: u8, page: Opt },

@@ -3,6 +3,8 @@
 //     prog_convert FORM    FORM is the form that is written, 1 or 2
 //
 // A refusal is one line on standard output, `refused` with its number and place.
+#![tactic(auto)]
+
 ghost use Rattle.std.specs.Prelude.{◌≡◌, ◌≤◌, length, take};
 ghost use Rattle.prog_args.specs.Text.{Shows as Holds};
 ghost use Rattle.meets_texts.specs.Printed.{file_room, form1_text, form2_text};
@@ -18,7 +20,7 @@ use prelude::Opt;
 const FILE: usize = 65_537;
 
 // How many bytes were read, and how many handed on.
-#[derive(Drop)]
+#[derive(Clone, Copy)]
 pub struct Ran {
     read: usize,
     shown: usize,

@@ -3,6 +3,8 @@
 //     prog_map [FILL [PAGE]]    FILL is the fill's choice, 0 where it is not given; PAGE the page size in bits of a device with pages
 //
 // It writes nothing where an argument is no number, or where there are more.
+#![tactic(auto)]
+
 ghost use Rattle.std.specs.Prelude.{take};
 ghost use Rattle.says.specs.Lines.{Shows};
 ghost use Rattle.says.specs.MapText.{MapText};
@@ -17,7 +19,7 @@ const FILE: usize = 65_537;
 const TEXT: usize = 663_552;
 
 // How many bytes were read, and how many handed on.
-#[derive(Drop)]
+#[derive(Clone, Copy)]
 pub struct Ran {
     read: usize,
     shown: usize,

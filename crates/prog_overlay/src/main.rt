@@ -8,6 +8,8 @@
 // A file's image goes from the load address to the end of its last block, and no byte is shown that a file does not give. A refusal is one line, `refused` with
 // its number and place. Where a file was refused, one more says which, and one more the line at fault, from 0, if there is one; where a range was, one more
 // says which file does not give which address of it.
+#![tactic(auto)]
+
 ghost use Rattle.std.specs.Prelude.{take};
 ghost use Rattle.says.specs.Bench.{BenchSays};
 ghost use Rattle.says.specs.Lines.{Shows};
@@ -28,7 +30,7 @@ const RUNS: usize = 65_536;
 const TEXT: usize = 3_801_600;
 
 // How many bytes were read of the released file, `old`, and of the overlay's, `new`, and how many handed on.
-#[derive(Drop)]
+#[derive(Clone, Copy)]
 pub struct Ran {
     old: usize,
     new: usize,

@@ -4,6 +4,8 @@
 //
 // One line on standard output: `reason`, the reason (include/denkumari.h), 0 for a good file, the line, from 0, and the reason's two numbers. A file that is
 // longer than the longest is `refused 4 0`.
+#![tactic(auto)]
+
 ghost use Rattle.std.specs.Prelude.{◌≤◌, length, take};
 ghost use Rattle.prog_args.specs.Text.{line_room, Stands};
 ghost use Rattle.meets_texts.specs.Printed.{reason_text};
@@ -20,7 +22,7 @@ const SOURCE: usize = 3_276_801;
 const SCRATCH: usize = 65_536;
 
 // How many bytes were read, and how many handed on.
-#[derive(Drop)]
+#[derive(Clone, Copy)]
 pub struct Ran {
     read: usize,
     shown: usize,

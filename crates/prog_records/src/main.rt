@@ -6,6 +6,8 @@
 // whole image with its fill. FILL is the fill's choice, and PAGE the page size in bits of a device with pages. It writes nothing where an argument is no
 // number or there are more or fewer. A refusal is one line on standard output, `refused` with its number and place, and a line `records` behind it
 // where the layout was accepted and its blocks were not written.
+#![tactic(auto)]
+
 ghost use Rattle.std.specs.Prelude.{◌≤◌, length, take};
 ghost use Rattle.print_records.specs.Steps.{text_room};
 ghost use Rattle.says.specs.Lines.{Shows};
@@ -22,7 +24,7 @@ const FILE: usize = 65_537;
 const TEXT: usize = 131_072;
 
 // How many bytes were read, and how many handed on.
-#[derive(Drop)]
+#[derive(Clone, Copy)]
 pub struct Ran {
     read: usize,
     shown: usize,

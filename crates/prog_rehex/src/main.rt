@@ -4,6 +4,8 @@
 //
 // LOAD is the lowest address at which the file may give bytes. A refusal is one line on standard output, `refused` with its number and place, and where a
 // line of the file is at fault one more with its number, from 0.
+#![tactic(auto)]
+
 ghost use Rattle.std.specs.Prelude.{◌≡◌, ◌≤◌, length, take};
 ghost use Rattle.print_rehex.specs.Rehex.{bytes_room, blocks_room};
 ghost use Rattle.print_rehex.specs.Steps.{text_room};
@@ -25,7 +27,7 @@ const BLOCKS: usize = 4_096;
 const TEXT: usize = 3_145_728;
 
 // How many bytes were read, and how many handed on.
-#[derive(Drop)]
+#[derive(Clone, Copy)]
 pub struct Ran {
     read: usize,
     shown: usize,

@@ -1,4 +1,6 @@
 // Where the bytes of a file of records stand: the lowest address that it gives a byte to, and the first behind the highest.
+#![tactic(auto)]
+
 ghost use Rattle.std.specs.Prelude.{◌≡◌, min, eqb};
 ghost use Rattle.prelude.specs.Pick.{pick};
 ghost use Rattle.record_lines.specs.Spelling.{Spells};
@@ -11,7 +13,7 @@ use prelude::Refusal;
 use record_scan::Scan;
 
 // The lowest address and the first behind the highest, both 0 for a file that gives no byte; or why none is told.
-#[derive(Drop)]
+#[derive(Clone, Copy)]
 pub enum Extent {
     Spans(u64, u64),
     Refused(Refusal),

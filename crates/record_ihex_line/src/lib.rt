@@ -1,4 +1,6 @@
 // Intel HEX, one line at a time: what a line says. Document 02, Ticket 1.
+#![tactic(auto)]
+
 ghost use Rattle.std.specs.Prelude.{◌≡◌, Bool, true, ◌<◌};
 ghost use Rattle.record_lines.specs.Items.{Says};
 ghost use Rattle.record_lines.specs.Spelling.{Spells};

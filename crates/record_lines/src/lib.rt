@@ -1,4 +1,6 @@
 // What Intel HEX and S-records have in common: hex digits, lines, sums of bytes, and what a line of a file says.
+#![tactic(auto)]
+
 ghost use Rattle.std.specs.Prelude.{◌≡◌, ◌+◌, ◌*◌, ◌%◌, ◌<◌, ◌≤◌, min, ◌&&◌, length, drop, slice_index};
 ghost use Rattle.record_lines.specs.Digits.{value_of, all_digits, pair_at, bytes_at};
 ghost use Rattle.record_lines.specs.Sums.{sum_of};
@@ -18,7 +20,7 @@ pub const END: u8 = 3;
 
 // A line that was read: its kind, the address of its first byte, where in the line its bytes are spelled, how many they are, and the
 // state that is in force behind it.
-#[derive(Drop)]
+#[derive(Clone, Copy)]
 pub struct Line {
     pub kind: u8,
     pub address: u32,
@@ -28,7 +30,7 @@ pub struct Line {
 }
 
 // Where a line's characters end, and where the next line begins.
-#[derive(Drop)]
+#[derive(Clone, Copy)]
 pub struct Cut {
     pub stop: usize,
     pub next: usize,

@@ -1,4 +1,6 @@
 // A file of records, read into lent bytes and blocks. Document 02, Tickets 1 and 12: "It fills lent bytes and blocks, counted from that address."
+#![tactic(auto)]
+
 ghost use Rattle.std.specs.Prelude.{◌≡◌, true, [], ◌∷◌, map, ◌+◌, ◌-◌, ◌*◌, ◌/◌, ◌≤◌, ◌<◌, ltb, eqb, length};
 ghost use Rattle.prelude.specs.Pick.{pick};
 ghost use Rattle.bitvec.specs.Numeral.{bit_of};
@@ -20,14 +22,14 @@ use prelude::Refusal;
 use record_scan::Scan;
 
 // Bytes from `first` on and before `end`, counted from the load address; none where `end` is not above `first`.
-#[derive(Drop)]
+#[derive(Clone, Copy)]
 pub struct Run {
     pub first: u64,
     pub end: u64,
 }
 
 // How far the blocks are written: the run that goes on, and how many of them stand before it.
-#[derive(Drop)]
+#[derive(Clone, Copy)]
 pub struct Walk {
     pub run: Run,
     pub count: usize,

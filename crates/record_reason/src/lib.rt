@@ -1,4 +1,6 @@
 // Why a file of records is bad: the line at fault, a reason, and two numbers that go with it.
+#![tactic(auto)]
+
 mod spelling;
 
 ghost use Rattle.std.specs.Prelude.{◌≡◌, ◌+◌, ◌<◌, min, eqb};
@@ -38,7 +40,7 @@ const BEHIND: u64 = 12;
 const NO_END: u64 = 13;
 
 // What is wrong with a line: a reason, 0 for none, and two numbers.
-#[derive(Drop)]
+#[derive(Clone, Copy)]
 pub struct Cause {
     pub reason: u64,
     pub first: u64,
@@ -47,7 +49,7 @@ pub struct Cause {
 
 // The same with the line, from 0. A file that is good has zeros.
 #[repr(C)]
-#[derive(Drop)]
+#[derive(Clone, Copy)]
 pub struct Why {
     pub reason: u64,
     pub line: u64,
@@ -56,7 +58,7 @@ pub struct Why {
 }
 
 // Where a line begins, the state that is in force there, and whether the line before it is the end record.
-#[derive(Drop)]
+#[derive(Clone, Copy)]
 pub struct Place {
     pub at: usize,
     pub state: u16,

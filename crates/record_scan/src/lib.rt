@@ -1,4 +1,6 @@
 // A file of records, read: which line is at fault. The loops stand here once for every format.
+#![tactic(auto)]
+
 ghost use Rattle.std.specs.Prelude.{◌≡◌, ◌&&◌, ◌+◌, ◌-◌, ◌*◌, ◌≤◌, ◌<◌, leb, ltb, length};
 ghost use Rattle.bitvec.specs.Clear.{cleared};
 ghost use Rattle.record_lines.specs.Items.{Says};
@@ -13,7 +15,7 @@ ghost use Rattle.record_scan.specs.Windows.{all_zero, window_end, Nearer, Window
 use record_lines::Line;
 
 // A line that was read, where its characters end, and where the next one begins.
-#[derive(Drop)]
+#[derive(Clone, Copy)]
 pub struct Step {
     pub line: Line,
     pub stop: usize,
@@ -21,7 +23,7 @@ pub struct Step {
 }
 
 // What is known to be free between the lines that were read: nothing is given below `low`, and nothing from `edge` on and below `top`.
-#[derive(Drop)]
+#[derive(Clone, Copy)]
 pub struct Free {
     pub low: u64,
     pub edge: u64,
@@ -30,7 +32,7 @@ pub struct Free {
 
 // A window of addresses that was marked: the first line that gives a byte in it twice, or how many lines there are; and the lowest address behind it that
 // is given, `NOWHERE` for none.
-#[derive(Drop)]
+#[derive(Clone, Copy)]
 pub struct Window {
     pub line: usize,
     pub next: u64,
@@ -38,7 +40,7 @@ pub struct Window {
 
 // How far a walk over the lines came: how many it passed, and whether it is sure that they give no byte twice. If they do not, the file is `whole`, with what
 // `Scan` tells of it, or at fault in line `line`.
-#[derive(Drop)]
+#[derive(Clone, Copy)]
 pub struct Walk {
     pub lines: usize,
     pub sure: bool,
@@ -60,7 +62,7 @@ const FEW: u64 = 16;
 
 // Whether a line may stand where it does: the highest end of the bytes given behind it, and how far up from its own end nothing is given; 0 where it was
 // not looked for whether its bytes are new.
-#[derive(Drop)]
+#[derive(Clone, Copy)]
 pub enum Admit {
     No,
     High(u64, u64),
@@ -68,14 +70,14 @@ pub enum Admit {
 
 // How many lines stand before the end record of a sound file, the highest end of its bytes, whether its records ascend, and how many of those with bytes
 // do not begin where the one before them ends; or the line at fault.
-#[derive(Drop)]
+#[derive(Clone, Copy)]
 pub enum Scan {
     Whole(usize, u64, bool, u64),
     Broken(usize),
 }
 
 // Whether a file is good, or its first line at which no good file can go on, from 0.
-#[derive(Drop)]
+#[derive(Clone, Copy)]
 pub enum Fault {
     Good,
     At(u64),

@@ -1,4 +1,6 @@
 // One S-record, a line of text: what it says. No file is walked here.
+#![tactic(auto)]
+
 ghost use Rattle.std.specs.Prelude.{◌≡◌, true, ◌⊎◌, ◌+◌, ◌*◌, ◌^◌, ◌≤◌, ◌<◌, length};
 ghost use Rattle.record_lines.specs.Digits.{pair_at};
 ghost use Rattle.record_lines.specs.Items.{Says};

@@ -1,4 +1,6 @@
 // The blocks of an image, written as a file of records into a lent text. Document 02, Tickets 1 and 12: what the formats share.
+#![tactic(auto)]
+
 mod line;
 
 ghost use Rattle.std.specs.Prelude.{◌≡◌, ◌+◌, ◌-◌, ◌*◌, ◌/◌, ◌<◌, ◌≤◌, true, length, take, drop, nat_le};
@@ -14,14 +16,14 @@ ghost use Rattle.record_write.specs.Srec.{format_for, WritesSrec};
 use prelude::{Refusal, Verdict};
 
 // What writing answers: the length of the text, or why there is none.
-#[derive(Drop)]
+#[derive(Clone, Copy)]
 pub enum Written {
     Length(u64),
     Refused(Refusal),
 }
 
 // Where the next line goes, and the state that is in force there.
-#[derive(Drop)]
+#[derive(Clone, Copy)]
 pub struct Place {
     pub at: usize,
     pub state: u16,

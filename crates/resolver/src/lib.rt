@@ -1,4 +1,6 @@
 // From the list of nodes and the rows of sizes to the pass that settles: a pass over a row, and the passes.
+#![tactic(auto)]
+
 mod once;
 mod passes;
 
@@ -8,7 +10,7 @@ pub use passes::resolve;
 use prelude::Refusal;
 
 // What a caller chooses, by value: the pass limit; the fill, 0 inherited and 1 full; and whether bank 0 is closed even where it is alone, which no pass reads.
-#[derive(Drop)]
+#[derive(Clone, Copy)]
 pub struct Choices {
     pub limit: u8,
     pub fill: u8,
@@ -16,7 +18,7 @@ pub struct Choices {
 }
 
 // What a pass comes to: the state that its nodes merge to (0 resolved, 1 stable, 2 unresolved), or a refusal.
-#[derive(Drop)]
+#[derive(Clone, Copy)]
 pub enum Pass {
     State(u8),
     Refused(Refusal),
@@ -24,27 +26,27 @@ pub enum Pass {
 
 // The state of a pass's walk, handed in and back by value: "bank positions, an array of 16 in the walk's state", and those of the walk of the pass before.
 // What a bank loses to alignment no pass asks for.
-#[derive(Drop)]
+#[derive(Clone, Copy)]
 pub struct TwoWalks {
     pub at: [Pos; 16],
     pub old: [Pos; 16],
 }
 
 // A pass, and what its walk comes to.
-#[derive(Drop)]
+#[derive(Clone, Copy)]
 pub struct Passed {
     pub pass: Pass,
     pub walks: TwoWalks,
 }
 
 // What the passes come to: pass K, or a refusal; and how many passes were run, a refusing pass included.
-#[derive(Drop)]
+#[derive(Clone, Copy)]
 pub enum Settled {
     At(u64),
     Refused(Refusal),
 }
 
-#[derive(Drop)]
+#[derive(Clone, Copy)]
 pub struct Resolution {
     pub settled: Settled,
     pub passes: u64,

@@ -1,5 +1,7 @@
 // Read-back: what was flashed, read back and held against the image. The bytes that the image's blocks ask for are listed, in runs, where the bytes that were
 // read back do not give them, and where they give them with another value.
+#![tactic(auto)]
+
 ghost use Rattle.std.specs.Prelude.{◌≡◌, ◌+◌, ◌-◌, ◌*◌, ◌/◌, ◌≤◌, length, get_or, set};
 ghost use Rattle.overlay.specs.Cover.{covered_bit};
 ghost use Rattle.verify.specs.Whole.{whole, all_whole, Sound};
