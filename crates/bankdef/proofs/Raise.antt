@@ -9,7 +9,7 @@ use lib.Dec.{ltb}
 use Rattle.prelude.specs.Laws.Bools.{either}
 use Rattle.prelude.specs.Pick.{pick}
 use Rattle.bankdef.specs.declared.Bankdef.{Bankdef}
-use Rattle.bankdef.specs.Fill.{raised_to, fill_end, fill_from, full_length}
+use Rattle.bankdef.specs.Fill.{raised_to, filled_by, fill_end, fill_from, full_length}
 use Rattle.bankdef.specs.Laws.FullFill.{filled-by-end}
 
 abbrev pub raised : ℕ → ℕ → ℕ → ℕ
@@ -34,7 +34,7 @@ larger n e =
 inherited : (n : ℕ) (l : List Bankdef) → raise_from 1 n l ≡ fill_from n l
 unfolding raise_from fill_from
 inherited n [] = refl
-inherited n (b ∷ l) = rw (below-h n (fill_end b) ∙ sym (filled-by-end b.fill b.size b.offset n)) (inherited _ l)
+inherited n (b ∷ l) = rw (below-h n (fill_end b) ∙ sym (filled-by-end b.fill b.size b.offset n)) (inherited (filled_by b.fill b.size b.offset n) l)
 
 full : (n : ℕ) (l : List Bankdef) → raise_from 0 n l ≡ max n (full_length l)
 unfolding raise_from full_length
