@@ -11,7 +11,7 @@ use lib.Dec.{leb}
 use lib.ListN.{length, take, drop, get_or, length-append, length-take, length-drop, drop_of_length-le}
 use lib.Seq.{sets, sets-eq, length-sets, take_all, drop-drop, drop-cons, length-take-le}
 use Rattle.prelude.specs.Laws.Bools.{unlike}
-use Rattle.io.specs.Counts.{IsPrefixLen}
+use Rattle.prog_args.specs.Counts.{IsPrefixLen}
 use Rattle.prelude.specs.Laws.Pick.{pick_true, pick-false}
 use Rattle.prelude.specs.Pick.{pick}
 use Rattle.prelude.specs.declared.Refusal.{Refusal}

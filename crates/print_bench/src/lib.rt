@@ -9,7 +9,7 @@
 #![tactic(auto)]
 
 ghost use Rattle.std.specs.Prelude.{◌≡◌, ◌+◌, ◌/◌, ◌≤◌, min, max, length};
-ghost use Rattle.io.specs.Counts.{IsPrefixLen};
+ghost use Rattle.prog_args.specs.Counts.{IsPrefixLen};
 ghost use Rattle.overlay.specs.Trial.{trial};
 ghost use Rattle.print_text.specs.Puts.{Writes};
 ghost use Rattle.prog_args.specs.Text.{Stands};

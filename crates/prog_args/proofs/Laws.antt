@@ -9,7 +9,7 @@ use borrow.Author.Tests.{le-leb, lt-leb, lt-ltb, le-ltb, eq-eqb, ne_eqb}
 use lib.Dec.{leb, ltb, eqb}
 use lib.ListN.{length, drop, get_or, drop_of_length-le}
 use lib.Seq.{drop-cons, length-take-le}
-use Rattle.io.specs.Counts.{IsPrefixLen}
+use Rattle.prog_args.specs.Counts.{IsPrefixLen}
 use Rattle.prelude.specs.Limits.{max_position}
 use Rattle.prelude.specs.Laws.Pick.{pick_true, pick-false}
 use Rattle.prelude.specs.Pick.{pick}

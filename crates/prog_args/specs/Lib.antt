@@ -1,3 +1,4 @@
+pub mod Counts
 pub mod Number
 pub mod Text
 pub mod Theorems

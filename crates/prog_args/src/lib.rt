@@ -1,8 +1,11 @@
-// What the programs share: numbers on the command line, and what they print.
+// What the programs share: what they read, numbers on the command line, and what they print.
+//
+// What reaches the system takes a handle: `rt` is the runtime, or what stands for it. No contract can say what comes from there or what arrives. A read that
+// fails ends the input, and a write that fails leaves the rest unwritten.
 #![tactic(auto)]
 
 ghost use Rattle.std.specs.Prelude.{◌≡◌, ◌+◌, ◌*◌, ◌≤◌, min, length, drop};
-ghost use Rattle.io.specs.Counts.{IsPrefixLen};
+ghost use Rattle.prog_args.specs.Counts.{IsPrefixLen};
 ghost use Rattle.prelude.specs.Limits.{max_position};
 ghost use Rattle.prelude.specs.Refusals.{number_of};
 ghost use Rattle.print_text.specs.Lines.{refusal_text};
@@ -11,6 +14,55 @@ ghost use Rattle.prog_args.specs.Text.{line_room, Stands, Shows};
 
 use prelude::{Opt, Refusal};
 use print_text::Written;
+use std::env::FillError;
+use std::io::Read;
+use std::rt::Env;
+
+// Reads until a buffer is full, the input ends or a read fails, and answers how many bytes were put at the front of the buffer.
+pub fn read_full(from: &mut impl Read, buf: &mut [u8]) -> usize
+    ensures { IsPrefixLen result buf.new }
+{
+    let mut done = 0;
+    while done < buf.len() {
+        let Ok(n) = from.read(&mut buf[done..]) else {
+            break;
+        };
+        if n == 0 {
+            break;
+        }
+        done += n;
+    }
+    done
+}
+
+// Whether there is no argument `i`. Argument 0 is the program's name.
+fn is_missing(rt: &impl Env, i: usize) -> bool {
+    let mut word = [0u8; 1];
+    match rt.arg(i, &mut word) {
+        Err(FillError::NotPresent) => true,
+        _ => false,
+    }
+}
+
+// How many arguments there are, the program's name among them.
+pub fn arg_count(rt: &impl Env) -> usize {
+    for i in 0..usize::MAX {
+        if is_missing(rt, i) {
+            return i;
+        }
+    }
+    usize::MAX
+}
+
+// Puts argument `i` at the front of a buffer, and answers its length: 0 where it is missing or longer than the buffer.
+pub fn arg(rt: &impl Env, i: usize, buf: &mut [u8]) -> usize
+    ensures { IsPrefixLen result buf.new }
+{
+    match rt.arg(i, buf) {
+        Ok(n) => n,
+        Err(_) => 0,
+    }
+}
 
 // The value of a digit, in either case; 16 for a character that is none.
 fn digit_value(c: u8) -> u64
@@ -107,11 +159,11 @@ pub fn number(text: &[u8]) -> Opt
 }
 
 // The number that argument i spells; none where it is missing. No contract can say which text the argument is.
-pub fn number_at(i: usize) -> Opt
+pub fn number_at(rt: &impl Env, i: usize) -> Opt
     ensures { Spelled result }
 {
     let mut word = [0u8; 16];
-    let n = os::arg(i, &mut word);
+    let n = arg(rt, i, &mut word);
     number(&word[..n])
 }
 
@@ -138,11 +190,11 @@ fn bytes_within(count: u64, text: &[u8]) -> usize
 }
 
 // Hands the first bytes of a text to standard output, and answers how many.
-pub fn print(text: &[u8], count: u64) -> usize
+pub fn print(rt: &impl Print, text: &[u8], count: u64) -> usize
     ensures { result ≡ min count (length text.now) }
 {
     let n = bytes_within(count, text);
-    io::write_all(1, &text[..n]);
+    let _ = rt.write_all(&text[..n]);
     n
 }
 
@@ -159,26 +211,26 @@ pub fn put_refusal(why: Refusal, out: &mut [u8]) -> usize
 }
 
 // Hands a refusal's line on from the front of a buffer, and answers how many bytes.
-fn hand_refusal(why: Refusal, line: &mut [u8]) -> usize
+fn hand_refusal(rt: &impl Print, why: Refusal, line: &mut [u8]) -> usize
     requires { line_room ≤ length line.old }
     ensures { Shows (refusal_text why) result line.new }
 {
     let end = put_refusal(why, line);
-    print(line, end as u64)
+    print(rt, line, end as u64)
 }
 
 // Hands a refusal's line to standard output, whole, and answers how many bytes.
-pub fn print_refusal(why: Refusal) -> usize
+pub fn print_refusal(rt: &impl Print, why: Refusal) -> usize
     ensures { result ≡ length (refusal_text why) }
 {
     let mut line = [0u8; 128];
-    hand_refusal(why, &mut line)
+    hand_refusal(rt, why, &mut line)
 }
 
 // Hands a refusal's line to standard output, and answers its number.
-pub fn refuse(why: Refusal) -> u64
+pub fn refuse(rt: &impl Print, why: Refusal) -> u64
     ensures { result ≡ number_of why }
 {
-    print_refusal(why);
+    print_refusal(rt, why);
     prelude::number(why)
 }

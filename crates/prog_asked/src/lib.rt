@@ -5,6 +5,7 @@ ghost use Rattle.std.specs.Prelude.{◌≡◌, min};
 ghost use Rattle.prog_asked.specs.Asked.{AskedBy};
 
 use prelude::Opt;
+use std::rt::Env;
 
 // What is asked for: nothing, or a layout's text.
 #[derive(Clone, Copy)]
@@ -22,10 +23,10 @@ pub fn choice(n: u32) -> u8
 
 // `[FILL [PAGE]]`: FILL is the fill's choice, 0 where it is not given; PAGE the page size in bits of a device with pages. Nothing is asked for where an
 // argument is no decimal number, or where there are more.
-pub fn layout_asked() -> Asked
+pub fn layout_asked(rt: &impl Env) -> Asked
     ensures { AskedBy result }
 {
-    let count = os::arg_count();
+    let count = prog_args::arg_count(rt);
     if count > 3 {
         return Asked::Nothing;
     }
@@ -35,7 +36,7 @@ pub fn layout_asked() -> Asked
             page: Opt::None,
         };
     }
-    let Opt::Some(fill) = prog_args::number_at(1) else {
+    let Opt::Some(fill) = prog_args::number_at(rt, 1) else {
         return Asked::Nothing;
     };
     if count < 3 {
@@ -44,7 +45,7 @@ pub fn layout_asked() -> Asked
             page: Opt::None,
         };
     }
-    let page = prog_args::number_at(2);
+    let page = prog_args::number_at(rt, 2);
     if let Opt::None = page {
         return Asked::Nothing;
     }

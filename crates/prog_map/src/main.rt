@@ -26,26 +26,32 @@ pub struct Ran {
 }
 
 // The map's text of a file, handed to standard output from the front of `text`, which has room for any: how many bytes it is.
-fn write(file: &[u8], fill: u8, page: Opt, text: &mut [u8; TEXT]) -> usize
+fn write(rt: &impl Print, file: &[u8], fill: u8, page: Opt, text: &mut [u8; TEXT]) -> usize
     ensures { Shows (MapText file.now fill page) result text.new }
 {
     let end = print_map::write_map(file, fill, page, text);
-    prog_args::print(text, end as u64)
+    prog_args::print(rt, text, end as u64)
 }
 
 // Reads a file into the room lent for it and hands the map's text of these bytes to standard output.
-fn run(fill: u8, page: Opt, file: &mut [u8], text: &mut [u8; TEXT]) -> Ran
+fn run(
+    rt: &(impl Input + Print),
+    fill: u8,
+    page: Opt,
+    file: &mut [u8],
+    text: &mut [u8; TEXT],
+) -> Ran
     ensures { Shows (MapText (take result.read file.new) fill page) result.shown text.new }
 {
-    let read = io::read_full(0, file);
-    let shown = write(&file[..read], fill, page, text);
+    let read = prog_args::read_full(&mut rt.reader(), file);
+    let shown = write(rt, &file[..read], fill, page, text);
     Ran { read, shown }
 }
 
-fn main() {
-    if let Asked::Layout { fill, page } = prog_asked::layout_asked() {
+fn main(rt: HostRuntime) {
+    if let Asked::Layout { fill, page } = prog_asked::layout_asked(&rt) {
         let mut file = [0u8; FILE];
         let mut text = [0u8; TEXT];
-        run(fill, page, &mut file, &mut text);
+        run(&rt, fill, page, &mut file, &mut text);
     }
 }

@@ -15,6 +15,9 @@ ghost use Rattle.says.specs.Bench.{BenchSays};
 ghost use Rattle.says.specs.Lines.{Shows};
 
 use prelude::Opt;
+use std::fs::File;
+use std::io::Read;
+use std::rt::{Env, Files};
 
 // The longest file that is read, and a byte more, so that nothing is cut to a sound file.
 const SOURCE: usize = 1_048_577;
@@ -29,6 +32,9 @@ const RUNS: usize = 65_536;
 // Room for the longest list.
 const TEXT: usize = 3_801_600;
 
+// The longest name of a file.
+const PATH: usize = 4_096;
+
 // How many bytes were read of the released file, `old`, and of the overlay's, `new`, and how many handed on.
 #[derive(Clone, Copy)]
 pub struct Ran {
@@ -39,6 +45,7 @@ pub struct Ran {
 
 // The text of two files, handed to standard output from the front of `out`: how many bytes it is.
 fn write(
+    rt: &impl Print,
     all: bool,
     at: u32,
     count: u32,
@@ -75,17 +82,18 @@ fn write(
         counts,
         out,
     );
-    prog_args::print(out, end as u64)
+    prog_args::print(rt, out, end as u64)
 }
 
 // Reads both files, the overlay first, and hands their text to standard output.
-fn run(
+fn run<F: Read>(
+    rt: &impl Print,
     all: bool,
     at: u32,
     count: u32,
     load: u32,
-    old_from: i32,
-    new_from: i32,
+    old_from: &mut F,
+    new_from: &mut F,
     old: &mut [u8],
     new: &mut [u8],
     released: &mut [u8; BYTES],
@@ -100,9 +108,10 @@ fn run(
 ) -> Ran
     ensures { Shows (BenchSays load all at count (take result.old old.new) (take result.new new.new)) result.shown out.new }
 {
-    let n = io::read_full(new_from, new);
-    let m = io::read_full(old_from, old);
+    let n = prog_args::read_full(new_from, new);
+    let m = prog_args::read_full(old_from, old);
     let shown = write(
+        rt,
         all,
         at,
         count,
@@ -127,13 +136,14 @@ fn run(
 }
 
 // The arrays go by reference, with their lengths, and are not looked at one by one.
-fn start(
+fn start<F: Read>(
+    rt: &impl Print,
     all: bool,
     at: u32,
     count: u32,
     load: u32,
-    old_from: i32,
-    new_from: i32,
+    old_from: &mut F,
+    new_from: &mut F,
     old: &mut [u8; SOURCE],
     new: &mut [u8; SOURCE],
     released: &mut [u8; BYTES],
@@ -149,6 +159,7 @@ fn start(
     ensures { Shows (BenchSays load all at count (take result.old old.new) (take result.new new.new)) result.shown out.new }
 {
     run(
+        rt,
         all,
         at,
         count,
@@ -169,36 +180,46 @@ fn start(
     )
 }
 
-fn main() {
-    let Opt::Some(load) = prog_args::number_at(3) else {
+// The file that an argument names, opened for reading; where it cannot be, a line on standard error says why.
+fn open<R: Env + Files + Eprint>(rt: &R, i: usize) -> Option<R::File> {
+    let mut word = [0u8; PATH];
+    let n = prog_args::arg(rt, i, &mut word);
+    let Ok(path) = std::str::from_utf8(&word[..n]) else {
+        let _ = eprintln!(rt; "the name of file {i} is not UTF-8");
+        return None;
+    };
+    match File::open(rt, path) {
+        Ok(file) => Some(file),
+        Err(e) => {
+            let _ = eprintln!(rt; "{path}: {e}");
+            None
+        }
+    }
+}
+
+fn main(rt: HostRuntime) {
+    let Opt::Some(load) = prog_args::number_at(&rt, 3) else {
         return;
     };
-    let all = os::arg_count() == 4;
+    let all = prog_args::arg_count(&rt) == 4;
     let mut at = 0;
     let mut count = 0;
     if !all {
-        let Opt::Some(first) = prog_args::number_at(4) else {
+        let Opt::Some(first) = prog_args::number_at(&rt, 4) else {
             return;
         };
-        let Opt::Some(n) = prog_args::number_at(5) else {
+        let Opt::Some(n) = prog_args::number_at(&rt, 5) else {
             return;
         };
         at = first;
         count = n;
     }
-    let mut path = io::buffer();
-    let n = os::arg(1, &mut path);
-    let old_from = os::open_read(&path[..n]);
-    if old_from < 0 {
-        os::fail(&path[..n]);
+    let Some(mut old_from) = open(&rt, 1) else {
         return;
-    }
-    let m = os::arg(2, &mut path);
-    let new_from = os::open_read(&path[..m]);
-    if new_from < 0 {
-        os::fail(&path[..m]);
+    };
+    let Some(mut new_from) = open(&rt, 2) else {
         return;
-    }
+    };
     let mut old = [0u8; SOURCE];
     let mut new = [0u8; SOURCE];
     let mut released = [255u8; BYTES];
@@ -211,12 +232,13 @@ fn main() {
     let mut counts = [0u64; RUNS];
     let mut out = [0u8; TEXT];
     start(
+        &rt,
         all,
         at,
         count,
         load,
-        old_from,
-        new_from,
+        &mut old_from,
+        &mut new_from,
         &mut old,
         &mut new,
         &mut released,

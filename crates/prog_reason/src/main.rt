@@ -43,43 +43,49 @@ fn put(kind: u8, load: u32, source: &[u8], out: &mut [u8]) -> usize
 }
 
 // The line for a file, handed to standard output from the front of `out`: how many bytes it is.
-fn write(kind: u8, load: u32, source: &[u8], out: &mut [u8]) -> usize
+fn write(rt: &impl Print, kind: u8, load: u32, source: &[u8], out: &mut [u8]) -> usize
     requires { line_room ≤ length out.old }
     ensures { Shows (ReasonText kind load source.now) result out.new }
 {
     let count = put(kind, load, source, out);
-    prog_args::print(out, count as u64)
+    prog_args::print(rt, out, count as u64)
 }
 
 // Reads a file and hands its line to standard output.
-fn run(kind: u8, load: u32, source: &mut [u8], out: &mut [u8]) -> Ran
+fn run(rt: &(impl Input + Print), kind: u8, load: u32, source: &mut [u8], out: &mut [u8]) -> Ran
     requires { line_room ≤ length out.old }
     ensures { Shows (ReasonText kind load (take result.read source.new)) result.shown out.new }
 {
-    let read = io::read_full(0, source);
-    let shown = write(kind, load, &source[..read], out);
+    let read = prog_args::read_full(&mut rt.reader(), source);
+    let shown = write(rt, kind, load, &source[..read], out);
     Ran { read, shown }
 }
 
 // The arrays go by reference, with their lengths, and are not looked at one by one.
-fn start(kind: u8, load: u32, source: &mut [u8; SOURCE], out: &mut [u8; 128]) -> Ran
+fn start(
+    rt: &(impl Input + Print),
+    kind: u8,
+    load: u32,
+    source: &mut [u8; SOURCE],
+    out: &mut [u8; 128],
+) -> Ran
     ensures { Shows (ReasonText kind load (take result.read source.new)) result.shown out.new }
 {
-    run(kind, load, source, out)
+    run(rt, kind, load, source, out)
 }
 
-fn main() {
-    let count = os::arg_count();
+fn main(rt: HostRuntime) {
+    let count = prog_args::arg_count(&rt);
     if count > 3 {
         return;
     }
-    let Opt::Some(kind) = prog_args::number_at(1) else {
+    let Opt::Some(kind) = prog_args::number_at(&rt, 1) else {
         return;
     };
-    let Opt::Some(load) = prog_args::number_at(2) else {
+    let Opt::Some(load) = prog_args::number_at(&rt, 2) else {
         return;
     };
     let mut source = [0u8; SOURCE];
     let mut out = [0u8; 128];
-    start(choice(kind), load, &mut source, &mut out);
+    start(&rt, choice(kind), load, &mut source, &mut out);
 }

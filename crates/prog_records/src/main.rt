@@ -39,40 +39,47 @@ pub fn put_file(wanted: Wanted, file: &[u8], fill: u8, page: Opt, out: &mut [u8]
 }
 
 // The same, handed to standard output.
-fn write(wanted: Wanted, file: &[u8], fill: u8, page: Opt, out: &mut [u8]) -> usize
+fn write(rt: &impl Print, wanted: Wanted, file: &[u8], fill: u8, page: Opt, out: &mut [u8]) -> usize
     requires { text_room ≤ length out.old }
     ensures { Shows (RecordsSay wanted.format wanted.load wanted.whole file.now fill page) result out.new }
 {
     let count = put_file(wanted, file, fill, page, out);
-    prog_args::print(out, count as u64)
+    prog_args::print(rt, out, count as u64)
 }
 
 // Reads a file into the room lent for it and hands the text of these bytes to standard output.
-fn run(wanted: Wanted, fill: u8, page: Opt, file: &mut [u8], out: &mut [u8]) -> Ran
+fn run(
+    rt: &(impl Input + Print),
+    wanted: Wanted,
+    fill: u8,
+    page: Opt,
+    file: &mut [u8],
+    out: &mut [u8],
+) -> Ran
     requires { text_room ≤ length out.old }
     ensures { Shows (RecordsSay wanted.format wanted.load wanted.whole (take result.read file.new) fill page)
         result.shown out.new }
 {
-    let read = io::read_full(0, file);
-    let shown = write(wanted, &file[..read], fill, page, out);
+    let read = prog_args::read_full(&mut rt.reader(), file);
+    let shown = write(rt, wanted, &file[..read], fill, page, out);
     Ran { read, shown }
 }
 
-fn main() {
-    let count = os::arg_count();
+fn main(rt: HostRuntime) {
+    let count = prog_args::arg_count(&rt);
     if count > 6 {
         return;
     }
-    let Opt::Some(format) = prog_args::number_at(1) else {
+    let Opt::Some(format) = prog_args::number_at(&rt, 1) else {
         return;
     };
-    let Opt::Some(load) = prog_args::number_at(2) else {
+    let Opt::Some(load) = prog_args::number_at(&rt, 2) else {
         return;
     };
-    let Opt::Some(whole) = prog_args::number_at(3) else {
+    let Opt::Some(whole) = prog_args::number_at(&rt, 3) else {
         return;
     };
-    let Opt::Some(fill) = prog_args::number_at(4) else {
+    let Opt::Some(fill) = prog_args::number_at(&rt, 4) else {
         return;
     };
     if whole > 1 {
@@ -86,11 +93,11 @@ fn main() {
     let mut file = [0u8; FILE];
     let mut text = [0u8; TEXT];
     if count < 6 {
-        run(wanted, choice(fill), Opt::None, &mut file, &mut text);
+        run(&rt, wanted, choice(fill), Opt::None, &mut file, &mut text);
         return;
     }
-    let page = prog_args::number_at(5);
+    let page = prog_args::number_at(&rt, 5);
     if let Opt::Some(_) = page {
-        run(wanted, choice(fill), page, &mut file, &mut text);
+        run(&rt, wanted, choice(fill), page, &mut file, &mut text);
     }
 }

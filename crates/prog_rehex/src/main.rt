@@ -35,6 +35,7 @@ pub struct Ran {
 
 // The text of a file, handed to standard output from the front of `out`: how many bytes it is.
 fn write(
+    rt: &impl Print,
     kind: u8,
     format: u8,
     load: u32,
@@ -51,11 +52,12 @@ fn write(
     ensures { Shows (RehexText kind format load source.now) result out.new }
 {
     let count = print_rehex::put_file(kind, format, load, source, bytes, offsets, sizes, out);
-    prog_args::print(out, count as u64)
+    prog_args::print(rt, out, count as u64)
 }
 
 // Reads a file and hands its text to standard output.
 fn run(
+    rt: &(impl Input + Print),
     kind: u8,
     format: u8,
     load: u32,
@@ -71,8 +73,9 @@ fn run(
     requires text_room_in_bounds { text_room ≤ length out.old }
     ensures { Shows (RehexText kind format load (take result.read source.new)) result.shown out.new }
 {
-    let read = io::read_full(0, source);
+    let read = prog_args::read_full(&mut rt.reader(), source);
     let shown = write(
+        rt,
         kind,
         format,
         load,
@@ -87,6 +90,7 @@ fn run(
 
 // The arrays go by reference, with their lengths, and are not looked at one by one.
 fn start(
+    rt: &(impl Input + Print),
     kind: u8,
     format: u8,
     load: u32,
@@ -98,21 +102,21 @@ fn start(
 ) -> Ran
     ensures { Shows (RehexText kind format load (take result.read source.new)) result.shown out.new }
 {
-    run(kind, format, load, source, bytes, offsets, sizes, out)
+    run(rt, kind, format, load, source, bytes, offsets, sizes, out)
 }
 
-fn main() {
-    let count = os::arg_count();
+fn main(rt: HostRuntime) {
+    let count = prog_args::arg_count(&rt);
     if count > 4 {
         return;
     }
-    let Opt::Some(kind) = prog_args::number_at(1) else {
+    let Opt::Some(kind) = prog_args::number_at(&rt, 1) else {
         return;
     };
-    let Opt::Some(format) = prog_args::number_at(2) else {
+    let Opt::Some(format) = prog_args::number_at(&rt, 2) else {
         return;
     };
-    let Opt::Some(load) = prog_args::number_at(3) else {
+    let Opt::Some(load) = prog_args::number_at(&rt, 3) else {
         return;
     };
     let mut source = [0u8; SOURCE];
@@ -121,6 +125,7 @@ fn main() {
     let mut sizes = [0u64; BLOCKS];
     let mut out = [0u8; TEXT];
     start(
+        &rt,
         choice(kind),
         choice(format),
         load,
