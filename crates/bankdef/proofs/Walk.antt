@@ -2,17 +2,17 @@
 -- own element, and a search has i elements behind it, of which none passed. Assumes nothing.
 use mathlib.Core.Path.{◌≡◌}
 use mathlib.Core.Bool.{Bool, true, false}
-use mathlib.Core.List.{List, [], ◌∷◌, map}
+use mathlib.Core.List.{List, [], ◌∷◌}
 use Prim.Native.Nat.{ℕ, suc, ◌+◌, ◌≤◌, ◌<◌}
 use native.Mathlib.Numerals.{add-one}
 use native.Mathlib.Omega.{arith}
-use lib.ListN.{length, get_or, take, drop, drop_of_length-le, length-map}
+use lib.ListN.{length, get_or, take, drop, drop_of_length-le}
 use lib.Seq.{length-take-le, drop-cons, get_or-take}
 use Rattle.bankdef.specs.Search.{first_where}
 
--- an array's length, as owning it tells: that of the list of its elements' values
-pub within : {A B : Type 0} (f : A → B) (l : List A) {m n : ℕ} → length (map f l) ≡ m → n ≤ m → n ≤ length l
-within f l e h = omega (arith, length-map l f)
+-- an array's length, as owning it tells
+pub within : {A : Type 0} (l : List A) {m n : ℕ} → length l ≡ m → n ≤ m → n ≤ length l
+within l e h = omega arith
 
 module _ {A : Type 0} (d : A) (l : List A) (n : ℕ) (fits : n ≤ length l) where
   -- the element that the walk meets, and what is left after it
