@@ -43,13 +43,13 @@ module _ (l : List Bankdef) (n : ℕ) (fits : n ≤ length l) (i : ℕ) (h : i <
 pub returns-then-j-n : goal.returns-then-j-n
 returns-then-j-n c =
     let fits : c.args.n ≤ length c.args.banks.defs =
-        within c.args.banks.defs c.well_formed.0.1.1.0.1.0.1 c.requires in
+    within c.args.banks.defs c.well_formed.0.1.1.0.1.0.1 c.requires in
     pair _ _ (fits) c.loop-i.i c.loop-i-test.true c.loop-i.invariant _ c.first_overlap_after-j.ensures c.if-j-n.true
 
 pub loop-i-preserved : goal.loop-i-preserved
 loop-i-preserved c =
     let fits : c.args.n ≤ length c.args.banks.defs =
-        within c.args.banks.defs c.well_formed.0.1.1.0.1.0.1 c.requires in
+    within c.args.banks.defs c.well_formed.0.1.1.0.1.0.1 c.requires in
     no-pair _ _ (fits) c.loop-i.i c.loop-i-test.true c.loop-i.invariant _ c.first_overlap_after-j.ensures
     c.if-j-n.false
 
@@ -57,5 +57,5 @@ pub returns : goal.returns
 unfolding first_pair
 returns c =
     let fits : c.args.n ≤ length c.args.banks.defs =
-        within c.args.banks.defs c.well_formed.0.1.1.0.1.0.1 c.requires in
+    within c.args.banks.defs c.well_formed.0.1.1.0.1.0.1 c.requires in
     rw (c.loop-i.invariant, ended no_bank c.args.banks.defs c.args.n (fits) c.loop-i.i c.loop-i-test.false)

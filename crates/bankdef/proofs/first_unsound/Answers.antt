@@ -1,5 +1,5 @@
 use mathlib.Core.Path.{sym, ◌∙◌}
-use Prim.Native.Nat.{◌-◌, ◌≤◌}
+use Prim.Native.Nat.{◌≤◌}
 use borrow.Author.Rules.{rules}
 use native.Mathlib.Omega.{arith}
 use lib.ListN.{length}
@@ -11,14 +11,13 @@ use Rattle.bankdef.proofs.first_unsound.Goals as goal
 pub returns-then-at_fault : goal.returns-then-at_fault
 returns-then-at_fault c =
     let fits : c.args.n ≤ length c.args.banks.defs =
-        within c.args.banks.defs c.well_formed.0.1.1.0.1.0.1 c.requires in
+    within c.args.banks.defs c.well_formed.0.1.1.0.1.0.1 c.requires in
     found no_bank _ _ (fits) bank_fault c.loop-i.i (search rules) (sym c.at_fault.ensures ∙ c.if-at_fault.true) c.loop-i.invariant.1
 
 pub loop-i-preserved : goal.loop-i-preserved
 loop-i-preserved c =
     let fits : c.args.n ≤ length c.args.banks.defs =
-        within c.args.banks.defs c.well_formed.0.1.1.0.1.0.1 c.requires in
-    (
+    within c.args.banks.defs c.well_formed.0.1.1.0.1.0.1 c.requires in (
       search rules,
       passed no_bank _ _ (fits) bank_fault c.loop-i.i (search rules) (sym c.at_fault.ensures ∙ c.if-at_fault.false)
           c.loop-i.invariant.1,
@@ -27,9 +26,9 @@ loop-i-preserved c =
 pub returns : goal.returns
 returns c =
     let fits : c.args.n ≤ length c.args.banks.defs =
-        within c.args.banks.defs c.well_formed.0.1.1.0.1.0.1 c.requires in
+    within c.args.banks.defs c.well_formed.0.1.1.0.1.0.1 c.requires in
     omega (
-  arith,
-  unfound no_bank c.args.banks.defs c.args.n (fits) bank_fault
-      c.loop-i.i c.loop-i-test.false c.loop-i.invariant.1,
-)
+      arith,
+      unfound no_bank c.args.banks.defs c.args.n (fits) bank_fault
+          c.loop-i.i c.loop-i-test.false c.loop-i.invariant.1,
+    )

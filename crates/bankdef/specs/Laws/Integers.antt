@@ -1,6 +1,6 @@
 -- Laws on the sign and the magnitude of an integer, for whoever goes on in natural numbers after a test of a sign: `mag z` is n for
 -- n and for -(n + 1), so a negative z has the magnitude mag z + 1 and -1 - z is mag z. Assumes nothing.
-use Rattle.std.specs.Prelude.{◌≡◌, refl, true, false, ◌&&◌, ℕ, suc, ◌+◌, T, leb, ℤ, pos, negsuc, nat_abs, neg_ℤ, ◌-ℤ◌}
+use Rattle.std.specs.Prelude.{◌≡◌, refl, true, false, ◌&&◌, ℕ, suc, ◌+◌, T, leb, ℤ, pos, negsuc, nat_abs, ◌-ℤ◌}
 use Rattle.std.proofs.Common.{sym, ◌∙◌, ap, subst, add-one, arith, ltb-true, le-ltb}
 use Rattle.std.proofs.Math.Bool.{and-true}
 use Rattle.std.proofs.Math.Dec.{leb-suc-suc}

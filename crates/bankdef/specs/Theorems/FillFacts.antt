@@ -2,7 +2,7 @@
 use Rattle.std.specs.Prelude.{◌≡◌, refl, List, [], ◌∷◌, ◌++◌, ℕ}
 use Rattle.bankdef.specs.declared.Bankdef.{Bankdef}
 use Rattle.bankdef.specs.Fill.{fill_from}
-use Rattle.bankdef.specs.FillFacts.{Filled, Fills, after_bank}
+use Rattle.bankdef.specs.FillFacts.{Filled, after_bank}
 use Rattle.bankdef.specs.Laws.FillFacts.{filled-cases}
 
 -- Which banks count: those with fill, size and offset, and no other.
