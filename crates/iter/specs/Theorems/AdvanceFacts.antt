@@ -8,12 +8,13 @@ use Rattle.prelude.specs.Laws.Pick.{pick_true, pick-false}
 use Rattle.prelude.specs.Told.{Told, gives, refuses, told_number}
 use Rattle.prelude.specs.Theorems.Told.{number-some}
 use Rattle.prelude.specs.declared.Opt.{Opt}
+use Rattle.prelude.specs.declared.Opt.TheVariants.{Some}
 use Rattle.prelude.specs.declared.Place.TheVariants.{One}
 use Rattle.bankdef.specs.declared.Bankdef.{Bankdef}
 use Rattle.iter.specs.Theorems.Advance.{sound-state, item, aligning}
 use Rattle.iter.specs.Distance.{distance_of}
 use Rattle.iter.specs.Figures as told
-use Rattle.iter.specs.Figures.{told_moved, Sees, Advances}
+use Rattle.iter.specs.Figures.{told_moved, OuterSymbol, SoundState, Sees, Advances}
 use Rattle.iter.specs.Known.{stays_known}
 use Rattle.iter.specs.Step.{moved_by_distance, label_aligned, seen_of, bad_state, advanced_of}
 use Rattle.iter.specs.Theorems.ToldFacts.{outer-symbol, sight-told, advance-told}
@@ -99,14 +100,18 @@ module _ (def : Bankdef) (at : Pos) (node : Node) (q : Pos) where
     sets-known = λ k. subst (λ (p : Pos). (p.known ≡ true) ↔ (node.state ≡ 0)) e sets;
   }
 
+  by-sum : (known : Bool) (d : Skipped) {t : Told Pos} → node.kind ≡ 8 → distance_of def at.position node.number node.index ≡ Skips d
+      → told.Keeps at.known node known → told.Adds at d.bits known node.index t → t ≡ gives q → Moves def at node q
+  by-sum known d k f keeps (told.sum l) e = aligned known d k f keeps (gives_same e)
+  by-sum known d k f keeps (told.past l) e = absurd (never-gives (omega arith) e)
+
   from : {t : Told Pos} → Advances def at node t → t ≡ gives q → Moves def at node q
   from (told.unknown h) e = absurd (never-gives (omega arith) e)
   from (told.badly h k) e = absurd (never-gives (omega arith) e)
   from (told.stays s k) e = staying k (gives_same e)
   from (told.item s h k known keeps (told.sum l)) e = adding known h k keeps (gives_same e)
   from (told.item s h k known keeps (told.past l)) e = absurd (never-gives (omega arith) e)
-  from (told.aligns s k known keeps (told.by d f (told.sum l))) e = aligned known d k f keeps (gives_same e)
-  from (told.aligns s k known keeps (told.by d f (told.past l))) e = absurd (never-gives (omega arith) e)
+  from (told.aligns s k known keeps (told.by d f a)) e = by-sum known d k f keeps a e
   from (told.aligns s k known keeps (told.untold why f)) e = absurd (never-gives (number-some why) e)
   from (told.sets s k known sets) e = setting known k sets (gives_same e)
 
@@ -115,6 +120,11 @@ module _ (def : Bankdef) (at : Pos) (node : Node) (q : Pos) where
   advance-moves e = from (advance-told def at node) (ap told_moved e)
 
 module _ (def : Bankdef) (at : Pos) (node : Node) where
+  past-by : (known : Bool) (d : Skipped) {t : Told Pos} → SoundState node → node.kind ≡ 8
+      → distance_of def at.position node.number node.index ≡ Skips d → told.Adds at d.bits known node.index t → told_number t ≡ 5 → PassesLimit def at node
+  past-by known d s k f (told.sum l) e = absurd (omega arith)
+  past-by known d s k f (told.past l) e = record { sound = s; bits = d.bits; adds = distance k d f; past = l }
+
   past-from : {t : Told Pos} → Advances def at node t → told_number t ≡ 5 → PassesLimit def at node
   past-from (told.unknown h) e = absurd (omega arith)
   past-from (told.badly h k) e = absurd (omega arith)
@@ -122,9 +132,7 @@ module _ (def : Bankdef) (at : Pos) (node : Node) where
   past-from (told.item s h k known keeps (told.sum l)) e = absurd (omega arith)
   past-from (told.item s h k known keeps (told.past l)) e =
       record { sound = s; bits = node.number; adds = number h k; past = l }
-  past-from (told.aligns s k known keeps (told.by d f (told.sum l))) e = absurd (omega arith)
-  past-from (told.aligns s k known keeps (told.by d f (told.past l))) e =
-      record { sound = s; bits = d.bits; adds = distance k d f; past = l }
+  past-from (told.aligns s k known keeps (told.by d f a)) e = past-by known d s k f a e
   past-from (told.aligns s k known keeps (told.untold why f)) e =
       absurd (not-five-of def at.position node.number node.index why f e)
   past-from (told.sets s k known sets) e = absurd (omega arith)
@@ -146,12 +154,15 @@ module _ (def : Bankdef) (at : Pos) (node : Node) where
   pub advance-five-when : PassesLimit def at node → told_moved (advanced_of def at node) ≡ refuses 5 (One node.index)
   advance-five-when p = past_of p.adds (sound-test node p.sound) p.past
 
+  sight-by : (a : ℕ) (d : Skipped) {t : Told Pos} → OuterSymbol node → def.align ≡ Some a → distance_of def at.position a node.index ≡ Skips d
+      → told.Adds at d.bits at.known node.index t → told_number t ≡ 5 → SightPasses def at node
+  sight-by a d s f g (told.sum l) e = absurd (omega arith)
+  sight-by a d s f g (told.past l) e = record { symbol = s; align = a; has-align = f; skips = d; has-skips = g; past = l }
+
   sight-from : {t : Told Pos} → Sees def at node t → told_number t ≡ 5 → SightPasses def at node
   sight-from (told.other h) e = absurd (omega arith)
   sight-from (told.unaligned h) e = absurd (omega arith)
-  sight-from (told.aligned s a f (told.by d g (told.sum l))) e = absurd (omega arith)
-  sight-from (told.aligned s a f (told.by d g (told.past l))) e =
-      record { symbol = s; align = a; has-align = f; skips = d; has-skips = g; past = l }
+  sight-from (told.aligned s a f (told.by d g m)) e = sight-by a d s f g m e
   sight-from (told.aligned s a f (told.untold why g)) e = absurd (not-five-of def at.position a node.index why g e)
 
   -- What a node sees is refused 5 only where a symbol of depth 0 is aligned past the limit,
