@@ -1,5 +1,5 @@
 -- Laws that Theorems/NeverFour rests on.
-use Rattle.std.specs.Prelude.{ℕ, ◌<◌, ◌≤◌, ◌≡◌, refl, true, false, length}
+use Rattle.std.specs.Prelude.{ℕ, ◌<◌, ◌≤◌, ◌≡◌, refl, Bool, true, false, length}
 use Rattle.std.proofs.Common.{sym, ◌∙◌, ap, subst, arith, length-take}
 use Rattle.prelude.specs.Refusals.{number_of}
 use Rattle.prelude.specs.Told.{Told, told_number}
@@ -16,7 +16,7 @@ use Rattle.bankdef.specs.declared.Bankdefs.{Bankdefs}
 use Rattle.iter.specs.Laws.Advance.{blind, stuck, moves}
 use Rattle.iter.specs.Distance.{tellable, distance_of}
 use Rattle.iter.specs.Figures as told
-use Rattle.iter.specs.Figures.{told_distance, told_moved, Measures, Sees, SoundState, Advances}
+use Rattle.iter.specs.Figures.{told_distance, told_moved, Measures, Adds, Sees, SoundState, Advances}
 use Rattle.iter.specs.Step.{seen_of, advanced_of, bank_after, malformed, step_of}
 use Rattle.iter.specs.StepCases.{standing}
 use Rattle.iter.specs.Theorems.Told.{sound-told}
@@ -47,11 +47,14 @@ module _ (def : Bankdef) (tells : tellable def ≡ true) where
       measured-not (distance-told def position a node) (ap (λ (d : Distance). told_number (told_distance d)) e ∙ n)
 
   module _ (at : Pos) (n : Node) where
+    adds-not : (bits : ℕ) (known : Bool) {t : Told Pos} → Adds at bits known n.index t → told_number t ≡ 4 → ⊥
+    adds-not bits known (told.sum l) e = omega arith
+    adds-not bits known (told.past l) e = omega arith
+
     sight-not : {t : Told Pos} → Sees def at n t → told_number t ≡ 4 → ⊥
     sight-not (told.other h) e = omega arith
     sight-not (told.unaligned h) e = omega arith
-    sight-not (told.aligned s a f (told.by d g (told.sum l))) e = omega arith
-    sight-not (told.aligned s a f (told.by d g (told.past l))) e = omega arith
+    sight-not (told.aligned s a f (told.by d g m)) e = adds-not d.bits at.known m e
     sight-not (told.aligned s a f (told.untold why g)) e = distance-not at.position a n.index why g e
 
     advance-not : n.kind ≤ last_kind → SoundState n → {t : Told Pos} → Advances def at n t → told_number t ≡ 4 → ⊥
@@ -60,8 +63,7 @@ module _ (def : Bankdef) (tells : tellable def ≡ true) where
     advance-not k s (told.stays s' h) e = omega arith
     advance-not k s (told.item s' h g known keeps (told.sum l)) e = omega arith
     advance-not k s (told.item s' h g known keeps (told.past l)) e = omega arith
-    advance-not k s (told.aligns s' h known keeps (told.by d f (told.sum l))) e = omega arith
-    advance-not k s (told.aligns s' h known keeps (told.by d f (told.past l))) e = omega arith
+    advance-not k s (told.aligns s' h known keeps (told.by d f m)) e = adds-not d.bits known m e
     advance-not k s (told.aligns s' h known keeps (told.untold why f)) e = distance-not at.position n.number n.index why f e
     advance-not k s (told.sets s' h known sets) e = omega arith
 

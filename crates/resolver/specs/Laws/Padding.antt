@@ -17,7 +17,7 @@ use Rattle.iter.specs.Theorems.Advance.{bad-state, sound-state, other}
 use Rattle.iter.specs.Theorems.AdvanceFacts.{advance-moves}
 use Rattle.iter.specs.Distance.{tellable, address_in_bits, distance_to, skips_of, no_skip, distance_of}
 use Rattle.iter.specs.Figures as told
-use Rattle.iter.specs.Figures.{told_moved, Advances}
+use Rattle.iter.specs.Figures.{told_moved, Adds, Advances}
 use Rattle.iter.specs.Padding.{Part, the-bits, the-units, lost_part, skipped_part, lost_in}
 use Rattle.iter.specs.Laws.Padding.{part-after, step-whole}
 use Rattle.iter.specs.Theorems.Padding.{sum-exact}
@@ -148,6 +148,10 @@ module _ (def : Bankdef) (at : Pos) (n : Node) (s : Pos) where
   not-outer : n.kind ≡ 8 → outermost_symbol n ≡ false
   not-outer k = rw k
 
+  sum-within : (bits : ℕ) (known : Bool) (q : Pos) {t : Told Pos} → Adds s bits known n.index t → t ≡ gives q → s.position + bits ≤ max_position
+  sum-within bits known q (told.sum l) e = l
+  sum-within bits known q (told.past l) e = absurd (never-gives (omega arith) e)
+
   -- an `align` that is made
   own-from : (q : Pos) {t : Told Pos} → n.kind ≡ 8 → Advances def s n t → t ≡ gives q
       → (d : Skipped) × (distance_of def s.position n.number n.index ≡ Skips d) × (s.position + d.bits ≤ max_position)
@@ -155,8 +159,7 @@ module _ (def : Bankdef) (at : Pos) (n : Node) (s : Pos) where
   own-from q k (told.badly h b) e = absurd (never-gives (omega arith) e)
   own-from q k (told.stays x h) e = absurd (⊎_elim (λ (l : n.kind ≤ 3). let b : ⊥ = omega arith in b) (λ (l : n.kind ≡ 10). let b : ⊥ = omega arith in b) h)
   own-from q k (told.item x h l known keeps a) e = absurd (let b : ⊥ = omega arith in b)
-  own-from q k (told.aligns x h known keeps (told.by d f (told.sum l))) e = (d, f, l)
-  own-from q k (told.aligns x h known keeps (told.by d f (told.past l))) e = absurd (never-gives (omega arith) e)
+  own-from q k (told.aligns x h known keeps (told.by d f a)) e = (d, f, sum-within d.bits known q a e)
   own-from q k (told.aligns x h known keeps (told.untold why f)) e = absurd (never-gives (number-some why) e)
   own-from q k (told.sets x h known sets) e = absurd (let b : ⊥ = omega arith in b)
 
