@@ -8,7 +8,7 @@ use Rattle.bitvec.specs.Laws.Lists.{length-list_of, get_d-list_of}
 use Rattle.bitvec.specs.Numeral.{numeral, Bits}
 use Rattle.bitvec.specs.Laws.Numeral.{numeral-cong, numeral-lt, bit_of-numeral}
 use Rattle.bitvec.specs.Bits.{Bytes, bit_at, of_bits}
-use Rattle.bitvec.specs.Laws.Bits.{bit_at_lt, byte-numeral}
+use Rattle.bitvec.specs.Laws.Bits.{byte-numeral}
 
 module _ (n : ℕ) (f : ℕ → ℕ) where
   pub length-of_bits : length (of_bits n f) ≡ n
