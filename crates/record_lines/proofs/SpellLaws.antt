@@ -1,7 +1,6 @@
 -- What a turn of the loop that checks and sums adds, and what it comes to.
-use Rattle.std.proofs.Common.{◌≡◌, ℕ, suc, ◌+◌, ◌*◌, ◌%◌, ◌<◌, ◌≤◌, Bool, true, false, List, length, get_or, drop, set, sym, refl, ap, ◌∙◌, add-one, arith, drop-cons, get_or-set_other, get_or-set_same, le-ltb, eq-eqb, ne_eqb}
+use Rattle.std.proofs.Common.{◌≡◌, ℕ, ◌+◌, ◌*◌, ◌%◌, ◌<◌, ◌≤◌, false, List, length, get_or, drop, set, sym, ap, ◌∙◌, arith, drop-cons, get_or-set_other, get_or-set_same, le-ltb, eq-eqb, ne_eqb}
 use native.Mathlib.Decide.{ℕ_discrete, dec_lt}
-use Rattle.prelude.specs.Pick.{pick}
 use Rattle.prelude.specs.Laws.Pick.{pick_true, pick-false}
 use Rattle.record_lines.specs.Digits.{value_of, all_digits, pair_at, bytes_at}
 use Rattle.record_lines.specs.Sums.{sum_of}

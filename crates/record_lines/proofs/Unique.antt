@@ -6,7 +6,6 @@ use denote.Triple.Clauses.{AtExit}
 use Rattle.prelude.specs.Laws.Outcome.{OneOutcome}
 use Rattle.prelude.specs.Laws.Pick.{determined}
 use Rattle.record_lines.specs.Spelling.{Spells}
-use Rattle.record_lines.specs.declared.Cut.{Cut}
 use Rattle.record_lines.proofs.least.Kinds as least-kinds
 use Rattle.record_lines.proofs.least.Reads as least-reads
 use Rattle.record_lines.proofs.plain.Kinds as plain-kinds

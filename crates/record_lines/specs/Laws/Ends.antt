@@ -1,6 +1,6 @@
 -- Where a line ends: by the characters at a place, and by what stands before it.
 use Rattle.std.specs.Prelude.{◌≡◌, ℕ, suc, ◌+◌, ◌<◌, ◌≤◌, Bool, true, false, ◌&&◌, List, [], ◌∷◌, ◌++◌, length, drop, ◌≢◌, slice_index, refl}
-use Rattle.std.proofs.Common.{sym, ap, ◌∙◌, arith, add-one, eq-eqb, ne_eqb, drop_of_length-le, drop-cons}
+use Rattle.std.proofs.Common.{sym, ap, ◌∙◌, arith, add-one, ne_eqb, drop_of_length-le, drop-cons}
 use Rattle.prelude.specs.Pick.{pick}
 use Rattle.prelude.specs.Laws.Bools.{clash, both}
 use Rattle.record_lines.specs.Cuts.{end_width}

@@ -2,7 +2,6 @@
 use Rattle.std.specs.Prelude.{◌≡◌, ℕ, suc, ◌+◌, ◌-◌, ◌*◌, ◌<◌, min, List, [], ◌∷◌, ◌++◌, length, take, drop, slice_index, slice_set, refl}
 use Rattle.std.proofs.Common.{sym, ap, ap₂, ◌∙◌, append-nil, add-zero, add-suc, suc-add, add-one, arith, length-append, length-drop, take-append-drop, drop_of_length-le, take_all, take-suc, length-take-le}
 use Rattle.std.proofs.Math.Decide.{dec_le}
-use Rattle.prelude.specs.Laws.Pick.{determined}
 use Rattle.std.proofs.lemmas.List.Edits.{sets}
 use Rattle.std.proofs.lemmas.List.{take-set-le, drop-set-add}
 use Rattle.std.proofs.Math.Seq.{length-sets}
