@@ -3,8 +3,8 @@ use mathlib.Core.Path.{◌≡◌, refl, sym, ap, fun_ext, ◌∙◌}
 use mathlib.Core.Bool.{true}
 use mathlib.Core.List.{List, [], ◌∷◌, ◌++◌, map, tail}
 use mathlib.Core.Logic.{⊎_elim}
-use Prim.Native.Nat.{ℕ, zero, suc, ◌≤◌, ◌<◌}
-use native.Mathlib.Nat.{suc-ne-zero, suc_inj, not-suc-le-zero, le_of_suc-le-suc}
+use Prim.Native.Nat.{ℕ, suc, ◌≤◌, ◌<◌}
+use native.Mathlib.Nat.{suc-ne-zero, suc_inj}
 use native.Mathlib.Omega.{arith}
 use borrow.Author.Tests.{le-leb, lt-leb}
 use lib.Dec.{leb}
@@ -23,10 +23,10 @@ use Rattle.sort.specs.Sorted.{sorted_by}
 use Rattle.sort.specs.Laws.Sorted.{le-or-lt}
 use Rattle.blocks.specs.Laws.Acceptable.{each_within}
 use Rattle.blocks.specs.Numbered.{span_at, numbered_blocks, Walkable}
-use Rattle.blocks.specs.Offsets.{offset_of, word_of}
+use Rattle.blocks.specs.Offsets.{word_of}
 use Rattle.blocks.specs.Laws.Offsets.{word-of-offset}
 use Rattle.blocks.specs.Laws.Passed.{same_blocks}
-use Rattle.blocks.specs.Spans.{Span, span, within, spans_of, all_within, rank_of}
+use Rattle.blocks.specs.Spans.{Span, spans_of, all_within, rank_of}
 use Rattle.blocks.specs.Walk.{block, blocks_from, blocks_of}
 
 -- The element at a place, and what stands behind it.
