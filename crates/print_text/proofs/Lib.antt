@@ -1,3 +1,4 @@
+pub mod Digits
 pub mod Blocks
 pub mod Image
 pub mod Spaced

@@ -1,5 +1,4 @@
 -- Text as the bytes that are printed: each character here is one byte, its ASCII code.
-use mathlib.Core.List as List
 use Rattle.std.specs.Prelude.{List, ℕ}
 use Prim.Native.Char.{code}
 use Prim.Native.String.{String, [], ◌∷◌}

@@ -1,5 +1,4 @@
 -- `write_refusal` meets its contract: each number of a place is one of 64 bits, so that the line fits.
-use mathlib.Core.Path.{◌≡◌}
 use Prim.Native.Nat.{◌+◌, ◌≤◌}
 use native.Mathlib.Omega.{arith}
 use lib.ListN.{length}
@@ -14,10 +13,8 @@ use Rattle.print_text.specs.Laws.Ends.{put-writes, put-fits}
 use Rattle.print_text.specs.Lengths.{AllWords}
 use Rattle.print_text.specs.Lines.{place_numbers, refusal_text}
 use Rattle.print_text.specs.Theorems.Lengths.{refusal-within}
-use borrow.Author.Rules.{rules}
 use Rattle.print_text.proofs.write_refusal.Kinds as kinds
-use Rattle.print_text.proofs.write_refusal.Statement.{statement}
-use Rattle.print_text.proofs.write_refusal.Tie as tie
+use Rattle.print_text.proofs.write_refusal.Goals as goal
 
 words : (κs : Lfts 1) (out : _) (at : _) (why : Refusal) (rest : _) → GoodsP κs kinds.ps (out, (at, (why, rest))) → AllWords (place_numbers (place_of why))
 words κs out at BankCount rest g = (omega arith, tt)
@@ -39,27 +36,26 @@ words κs out at (BanksOverlap p q) rest g = (omega (arith, g.1.1.0.1.1.1.1.0.1)
 words κs out at (Overlap p q) rest g = (omega (arith, g.1.1.0.1.1.1.1.0.1), (omega (arith, g.1.1.0.1.1.1.1.1.0.1), tt))
 words κs out at (OffProfile p q) rest g = (omega (arith, g.1.1.0.1.1.1.1.0.1), (omega (arith, g.1.1.0.1.1.1.1.1.0.1), tt))
 
-short : (s : tie.Start) → length (refusal_text s.args.why) ≤ 71
-short s = refusal-within s.args.why (words s.lifetimes s.args.out s.args.at s.args.why tt s.well-formed)
+pub returns-in-To-clause-writes : goal.returns-in-To-clause-writes
+returns-in-To-clause-writes c =
+    let short : length (refusal_text c.args.why) ≤ 71 =
+    refusal-within c.args.why (words c.lifetimes c.args.out c.args.at c.args.why tt c.well_formed) in
+    let fits : c.args.at + length (refusal_text c.args.why) ≤ length c.args.out.now =
+    omega (arith, short, c.requires) in
+    let w = put-writes (fits) c.put_refusal.ensures c.in-To.is in w
 
-fits : (s : tie.Start) → s.args.at + length (refusal_text s.args.why) ≤ length s.args.out.now
-fits s = omega (arith, short s, s.requires)
+pub returns-in-To-clause-upper_bound : goal.returns-in-To-clause-upper_bound
+returns-in-To-clause-upper_bound c =
+    let short : length (refusal_text c.args.why) ≤ 71 =
+    refusal-within c.args.why (words c.lifetimes c.args.out c.args.at c.args.why tt c.well_formed) in
+    let fits : c.args.at + length (refusal_text c.args.why) ≤ length c.args.out.now =
+    omega (arith, short, c.requires) in
+    let w = put-writes (fits) c.put_refusal.ensures c.in-To.is in omega (arith, w.place, short)
 
-returns : tie.Need-returns
-returns c =
-    let d = c.before.before.before.before.before in
-    let s = d.before.before.before in
-    let w = put-writes (fits s) d.put-refusal.ensures c.before.end.given.1 in
-    (w, omega (arith, w.place, short s))
-
-returns-2 : tie.Need-returns-2
-returns-2 c =
-    let d = c.before.before.before.before in
-    let s = d.before.before.before in
-    absurd (put-fits (fits s) d.put-refusal.ensures c.enum_told.given.1)
-
-pub write-refusal-spec : {M : Type 1} → statement M
-write-refusal-spec =
-    tie.close
-    (tie.spec
-    (λ c κs. search rules) (λ c. search rules) (λ c. search rules) (λ c. search rules) returns (λ c. search rules) returns-2)
+pub returns-in-TooShort-clause-writes : goal.returns-in-TooShort-clause-writes
+returns-in-TooShort-clause-writes c =
+    let short : length (refusal_text c.args.why) ≤ 71 =
+    refusal-within c.args.why (words c.lifetimes c.args.out c.args.at c.args.why tt c.well_formed) in
+    let fits : c.args.at + length (refusal_text c.args.why) ≤ length c.args.out.now =
+    omega (arith, short, c.requires) in
+    absurd (put-fits (fits) c.put_refusal.ensures c.in-TooShort.is)
