@@ -27,9 +27,9 @@ unfolding length_of
 fill-within fill [] = omega arith
 fill-within fill (x ∷ l) = omega (arith, fill-within (max fill (end_of x)) l)
 
-pub end-within : (fill : ℕ) {l : List Item} {x : Item} → Memᴰ x l → end_of x ≤ length_of fill l
+pub end-within : {x : Item} (fill : ℕ) {l : List Item} → Memᴰ x l → end_of x ≤ length_of fill l
 unfolding length_of
-end-within fill {x = x} (Memᴰ.head {x = y} {xs = l} e) =
+end-within {x = x} fill (Memᴰ.head {x = y} {xs = l} e) =
     subst (λ (z : Item). end_of z ≤ length_of (max fill (end_of y)) l) (sym e) (omega (arith, fill-within (max fill (end_of y)) l))
 end-within fill (Memᴰ.tail {x = y} m) = end-within (max fill (end_of y)) m
 
@@ -75,16 +75,16 @@ module _ (values : List ℕ) where
       ∙ written-other blank x.at values x.from x.size bit (λ low high. none x (Memᴰ.head refl) (low, high))
 
   -- a bit of an item is that item's own, where no other item has it and the item ends within the image
-  pub bit-of-item : (blank : List ℕ) (l : List Item) → NoSharedBit InItem l → {x : Item} → Memᴰ x l → end_of x ≤ 8 * length blank
+  pub bit-of-item : {x : Item} (blank : List ℕ) (l : List Item) → NoSharedBit InItem l → Memᴰ x l → end_of x ≤ 8 * length blank
       → (j : ℕ) → j < x.size → bit_at (image_of values blank l) (x.at + j) ≡ bit_at values (x.from + j)
   unfolding image_of
-  bit-of-item blank l apart {x} (Memᴰ.head {x = y} {xs = k} e) fits j h =
+  bit-of-item {x} blank l apart (Memᴰ.head {x = y} {xs = k} e) fits j h =
       let same : y ≡ x = sym e in
       bit-of-none (written blank y.at values y.from y.size) k (x.at + j)
       (λ z m covered. apart.0 (x.at + j) (subst (λ (w : Item). InItem (x.at + j) w) e (omega arith, omega arith)) (z, m, covered))
       ∙ subst (λ (w : Item). bit_at (written blank w.at values w.from w.size) (x.at + j) ≡ bit_at values (x.from + j)) e
       (written-own blank x.at values x.from x.size fits j h)
-  bit-of-item blank l apart {x} (Memᴰ.tail {x = y} {xs = k} m) fits j h =
+  bit-of-item {x} blank l apart (Memᴰ.tail {x = y} {xs = k} m) fits j h =
       bit-of-item (written blank y.at values y.from y.size) k apart.1 m
       (subst (λ (n : ℕ). end_of x ≤ 8 * n) (sym (length-written blank y.at values y.from y.size)) fits) j h
 

@@ -6,6 +6,7 @@ use Rattle.std.proofs.lemmas.Bool.{eqb-false}
 use Rattle.prelude.specs.Laws.Bools.{either, unlike}
 use Rattle.prelude.specs.Told.{Told, gives, refuses, told_number}
 use Rattle.prelude.specs.Theorems.Told.{number-some}
+use Rattle.prelude.specs.declared.Opt.TheVariants.{Some}
 use Rattle.prelude.specs.declared.Place.{Place}
 use Rattle.prelude.specs.declared.Refusal.{Refusal}
 use Rattle.bankdef.specs.declared.Bankdef.{Bankdef}
@@ -15,7 +16,7 @@ use Rattle.iter.specs.Theorems.Aligned.{told-when}
 use Rattle.iter.specs.Theorems.Padding.{units-over-unit}
 use Rattle.iter.specs.Distance.{distance_of}
 use Rattle.iter.specs.Figures as told
-use Rattle.iter.specs.Figures.{Sees, Advances, Keeps, SightSkips, OwnSkips, Skipping}
+use Rattle.iter.specs.Figures.{OuterSymbol, Sees, Advances, Keeps, SightSkips, OwnSkips, Skipping}
 use Rattle.iter.specs.declared.Distance.TheVariants.{Skips, Refused as NoDistance}
 use Rattle.iter.specs.declared.Moved.{Moved}
 use Rattle.iter.specs.declared.Moved.TheVariants.{To, Refused as Stopped}
@@ -70,10 +71,9 @@ module _ (g : Given) (banks : Bankdefs) (r i b : ℕ) (listed : i < nodes g) (de
     within = λ h. let q = ap (λ (x : Pos). x.position) e in omega arith;
   }
 
-  pub sight-of : (at p : Pos) {t : Told Pos} → Sees def at n t → t ≡ gives p → Sight at p
-  sight-of at p (told.other h) e = sees-same at p (gives_same e) (says.unaligned (λ x. h (x.0, x.1)))
-  sight-of at p (told.unaligned h) e = sees-same at p (gives_same e) (says.unaligned (λ x. tells.unaligned h x.2))
-  sight-of at p (told.aligned s a f (told.by d q (told.sum l))) e =
+  aligned-sight : (at p : Pos) (a : ℕ) (d : Skipped) → OuterSymbol n → def.align ≡ Some a → distance_of def at.position a i ≡ Skips d
+      → {t : Told Pos} → told.Adds at d.bits at.known i t → t ≡ gives p → Sight at p
+  aligned-sight at p a d s f q (told.sum l) e =
       subst (Sight at) (gives_same e) (record {
         lead = d.bits;
         is = says.symbol s.0 s.1 (tells.aligned a f) (distance_is g b def tells at.position a i d q);
@@ -81,7 +81,12 @@ module _ (g : Given) (banks : Bankdefs) (r i b : ℕ) (listed : i < nodes g) (de
         known = refl;
         within = λ h. l;
       })
-  sight-of at p (told.aligned s a f (told.by d q (told.past l))) e = absurd (never-gives (omega arith) e)
+  aligned-sight at p a d s f q (told.past l) e = absurd (never-gives (omega arith) e)
+
+  pub sight-of : (at p : Pos) {t : Told Pos} → Sees def at n t → t ≡ gives p → Sight at p
+  sight-of at p (told.other h) e = sees-same at p (gives_same e) (says.unaligned (λ x. h (x.0, x.1)))
+  sight-of at p (told.unaligned h) e = sees-same at p (gives_same e) (says.unaligned (λ x. tells.unaligned h x.2))
+  sight-of at p (told.aligned s a f (told.by d q m)) e = aligned-sight at p a d s f q m e
   sight-of at p (told.aligned s a f (told.untold why q)) e = absurd (never-gives (number-some why) e)
 
   -- ---- its own advance
@@ -121,6 +126,16 @@ module _ (g : Given) (banks : Bankdefs) (r i b : ℕ) (listed : i < nodes g) (de
     pub known : Known g r i p.known q.known
     pub within : p.position ≤ 4294967295 → q.position ≤ 4294967295
 
+  aligned-own : (p q : Pos) (known : Bool) (d : Skipped) → kind g i ≡ 8 → Keeps p.known n known
+      → distance_of def p.position n.number i ≡ Skips d → {t : Told Pos} → told.Adds p d.bits known i t → t ≡ gives q → Own p q
+  aligned-own p q known d k keeps f (told.sum l) e =
+      subst (Own p) (gives_same e) (record {
+        advance = says.aligns k (number_is g banks r i listed) (distance_is g b def tells p.position n.number i d f);
+        known = known_of p.known known keeps (omega arith) (omega arith);
+        within = λ h. l;
+      })
+  aligned-own p q known d k keeps f (told.past l) e = absurd (never-gives (omega arith) e)
+
   pub own_of : ((j : ℕ) → get_or g.numbers j 0 ≤ 4294967295) → (p q : Pos) {t : Told Pos} → Advances def p n t → t ≡ gives q → Own p q
   own_of typed p q (told.unknown h) e = absurd (never-gives (omega arith) e)
   own_of typed p q (told.badly h k) e = absurd (never-gives (omega arith) e)
@@ -133,13 +148,7 @@ module _ (g : Given) (banks : Bankdefs) (r i b : ℕ) (listed : i < nodes g) (de
         within = λ h. l;
       })
   own_of typed p q (told.item s h k known keeps (told.past l)) e = absurd (never-gives (omega arith) e)
-  own_of typed p q (told.aligns s k known keeps (told.by d f (told.sum l))) e =
-      subst (Own p) (gives_same e) (record {
-        advance = says.aligns k (number_is g banks r i listed) (distance_is g b def tells p.position n.number i d f);
-        known = known_of p.known known keeps (omega arith) (omega arith);
-        within = λ h. l;
-      })
-  own_of typed p q (told.aligns s k known keeps (told.by d f (told.past l))) e = absurd (never-gives (omega arith) e)
+  own_of typed p q (told.aligns s k known keeps (told.by d f a)) e = aligned-own p q known d k keeps f a e
   own_of typed p q (told.aligns s k known keeps (told.untold why f)) e = absurd (never-gives (number-some why) e)
   own_of typed p q (told.sets s k known sets) e =
       subst (Own p) (gives_same e) (record {
