@@ -2,7 +2,8 @@ use Prim.Native.Nat.{◌+◌, ◌-◌, ◌<◌}
 use mathlib.Core.Path.{◌≡◌, refl, sym, ap, subst, ◌∙◌}
 use mathlib.Core.Bool.{false}
 use native.Mathlib.Omega.{arith}
-use lib.ListN.{length}
+use lib.ListN.{length, get_or}
+use Rattle.bankdef.specs.Check.{no_bank}
 use borrow.Author.Rules.{rules}
 use borrow.Author.Tests.{eq-eqb, ne_eqb}
 use Rattle.prelude.specs.Laws.Bools.{clash}
@@ -56,7 +57,7 @@ returns-then-step-ne-MADE-clause-pass c =
     let seen-is : (let i = c.loop-i.i in
     seen_by c.pace-step.result c.node_at-node.result.index ≡ (step_at (given) (row) (walk_to (given) (row) i) i).seen) =
         let l = c.loop-i in
-    sees (given) c.requires.switches (room) (row) l.i l.invariant.3 (there) _ _ _ c.node_at-node.ensures c.pace-step.ensures.1 refl in
+    sees (given) c.requires.switches (room) (row) l.i l.invariant.3 (there) _ _ no_bank c.node_at-node.ensures c.pace-step.ensures.1 refl in
     let l = c.loop-i in c.refused_pass.ensures
           ∙ ap (λ (x : Refusal). Refused x) c.why_refused.ensures
           ∙ pass-halts (given) (row) (row_before) c.args.is_first c.args.is_last l.i l.invariant.2 (seen-is)
@@ -84,13 +85,14 @@ returns-then-off_boundary-clause-pass c =
     let seen-is : (let i = c.loop-i.i in
     seen_by c.pace-step.result c.node_at-node.result.index ≡ (step_at (given) (row) (walk_to (given) (row) i) i).seen) =
         let l = c.loop-i in
-    sees (given) c.requires.switches (room) (row) l.i l.invariant.3 (there) _ _ _ c.node_at-node.ensures c.pace-step.ensures.1 refl in
+    sees (given) c.requires.switches (room) (row) l.i l.invariant.3 (there) _ _ no_bank c.node_at-node.ensures c.pace-step.ensures.1 refl in
     let l = c.loop-i in c.refused_pass-then-off_boundary.ensures
           ∙ pass-refused (given) (row) (row_before) c.args.is_first c.args.is_last l.i (walk_to (given) (row) (l.i + 1))
           (pass_meets (given) (row) (row_before) c.args.is_first c.args.is_last l.i l.invariant.2 c.node_at-node.ensures
-          (record_is (given) c.requires.switches (room) (row) l.i l.invariant.3 (there) _ refl)
+          (record_is (given) c.requires.switches (room) (row) l.i l.invariant.3 (there) no_bank refl)
           (seen-is) refl
-          (met-off _ _ _ _ _ _ (pick_true _ _ (eq-eqb c.pace-step.result.fault 0 c.if-step-ne-MADE.false)) c.off_boundary.ensures c.if-off_boundary.true))
+          (met-off (get_or c.args.banks.defs c.bank_after-bank.result no_bank) c.node_at-node.result
+          (step_at (given) (row_before) (walk_to (given) (row_before) l.i) l.i).seen c.args.is_first c.args.is_last l.merged (pick_true _ _ (eq-eqb c.pace-step.result.fault 0 c.if-step-ne-MADE.false)) c.off_boundary.ensures c.if-off_boundary.true))
           refl (more)
 
 -- held against its own row: what the pass before sees is what this one sees
@@ -113,7 +115,7 @@ loop-i-preserved-then-alone c =
     let seen-is : (let i = c.loop-i.i in
     seen_by c.pace-step.result c.node_at-node.result.index ≡ (step_at (given) (row) (walk_to (given) (row) i) i).seen) =
         let l = c.loop-i in
-    sees (given) c.requires.switches (room) (row) l.i l.invariant.3 (there) _ _ _ c.node_at-node.ensures c.pace-step.ensures.1 refl in
+    sees (given) c.requires.switches (room) (row) l.i l.invariant.3 (there) _ _ no_bank c.node_at-node.ensures c.pace-step.ensures.1 refl in
     let l = c.loop-i in
     let i = l.i in
     let alone = c.if-alone.true in
@@ -124,12 +126,13 @@ loop-i-preserved-then-alone c =
       omega (arith, c.loop-i-test.true),
       pass-goes (given) (row) (row_before) c.args.is_first c.args.is_last (i + 1)
           (pass_meets (given) (row) (row_before) c.args.is_first c.args.is_last i l.invariant.2 c.node_at-node.ensures
-          (record_is (given) c.requires.switches (room) (row) i l.invariant.3 (there) _ refl) (seen-is) other
-          (met-paced _ _ c.pace-step.result c.node_at-node.result.index _ _ _
+          (record_is (given) c.requires.switches (room) (row) i l.invariant.3 (there) no_bank refl) (seen-is) other
+          (met-paced (get_or c.args.banks.defs c.bank_after-bank.result no_bank) c.node_at-node.result c.pace-step.result c.node_at-node.result.index
+          c.args.is_first c.args.is_last l.merged
           (pick_true _ _ (eq-eqb c.pace-step.result.fault 0 c.if-step-ne-MADE.false)) c.off_boundary.ensures c.if-off_boundary.false
           c.node_state.ensures c.larger-merged.ensures))
           refl,
-      stands-next (given) c.requires.switches (room) (row) i l.invariant.3 (there) _ _ _ c.node_at-node.ensures c.pace-step.ensures.1 refl,
+      stands-next (given) c.requires.switches (room) (row) i l.invariant.3 (there) _ _ no_bank c.node_at-node.ensures c.pace-step.ensures.1 refl,
       λ e. absurd (clash alone e),
     )
 
@@ -153,7 +156,7 @@ loop-i-preserved c =
     let seen-is : (let i = c.loop-i.i in
     seen_by c.pace-step.result c.node_at-node.result.index ≡ (step_at (given) (row) (walk_to (given) (row) i) i).seen) =
         let l = c.loop-i in
-    sees (given) c.requires.switches (room) (row) l.i l.invariant.3 (there) _ _ _ c.node_at-node.ensures c.pace-step.ensures.1 refl in
+    sees (given) c.requires.switches (room) (row) l.i l.invariant.3 (there) _ _ no_bank c.node_at-node.ensures c.pace-step.ensures.1 refl in
     let l = c.loop-i in
     let i = l.i in
     let old = l.invariant.4 c.if-alone.false in (
@@ -161,12 +164,13 @@ loop-i-preserved c =
       omega (arith, c.loop-i-test.true),
       pass-goes (given) (row) (row_before) c.args.is_first c.args.is_last (i + 1)
           (pass_meets (given) (row) (row_before) c.args.is_first c.args.is_last i l.invariant.2 c.node_at-node.ensures
-          (record_is (given) c.requires.switches (room) (row) i l.invariant.3 (there) _ refl) (seen-is)
-          (sees (given) c.requires.switches (room) (row_before) i old (there) _ _ _ c.node_at-node_before.ensures c.pace-before.ensures.1 refl)
-          (met-paced _ _ c.pace-before.result c.node_at-node_before.result.index _ _ _
+          (record_is (given) c.requires.switches (room) (row) i l.invariant.3 (there) no_bank refl) (seen-is)
+          (sees (given) c.requires.switches (room) (row_before) i old (there) _ _ no_bank c.node_at-node_before.ensures c.pace-before.ensures.1 refl)
+          (met-paced (get_or c.args.banks.defs c.bank_after-bank.result no_bank) c.node_at-node.result c.pace-before.result c.node_at-node_before.result.index
+          c.args.is_first c.args.is_last l.merged
           (pick_true _ _ (eq-eqb c.pace-step.result.fault 0 c.if-step-ne-MADE.false)) c.off_boundary.ensures c.if-off_boundary.false
           c.node_state-in-loop-i.ensures c.larger-merged-in-loop-i.ensures))
           refl,
-      stands-next (given) c.requires.switches (room) (row) i l.invariant.3 (there) _ _ _ c.node_at-node.ensures c.pace-step.ensures.1 refl,
-      λ e. stands-next (given) c.requires.switches (room) (row_before) i old (there) _ _ _ c.node_at-node_before.ensures c.pace-before.ensures.1 refl,
+      stands-next (given) c.requires.switches (room) (row) i l.invariant.3 (there) _ _ no_bank c.node_at-node.ensures c.pace-step.ensures.1 refl,
+      λ e. stands-next (given) c.requires.switches (room) (row_before) i old (there) _ _ no_bank c.node_at-node_before.ensures c.pace-before.ensures.1 refl,
     )
