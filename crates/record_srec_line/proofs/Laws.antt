@@ -1,11 +1,10 @@
 -- One law for each return of the functions that read a line, on plain values.
-use mathlib.Core.Path.{◌≡◌, refl, sym, ap, ◌∙◌}
-use mathlib.Core.Bool.{Bool, true, false, ◌&&◌, ◌||◌}
+use mathlib.Core.Path.{◌≡◌, refl, ap, ◌∙◌}
+use mathlib.Core.Bool.{Bool, true, false, ◌&&◌}
 use mathlib.Core.List.{List}
-use mathlib.Core.Logic.{◌⊎◌, inl, inr}
-use Prim.Native.Nat.{ℕ, suc, ◌+◌, ◌-◌, ◌*◌, ◌%◌, ◌^◌, ◌<◌, ◌≤◌}
+use Prim.Native.Nat.{ℕ, ◌+◌, ◌-◌, ◌*◌, ◌%◌, ◌^◌, ◌<◌, ◌≤◌}
 use native.Mathlib.Omega.{arith}
-use lib.Dec.{ltb, leb, eqb}
+use lib.Dec.{ltb, eqb}
 use lib.ListN.{length, get_or, drop}
 use borrow.Author.Tests.{lt-ltb, le-ltb, le-leb, lt-leb, eq-eqb, ne_eqb}
 use Rattle.bitvec.specs.Lists.{list_of}
@@ -16,7 +15,7 @@ use Rattle.record_lines.specs.Laws.Items.{as-gives}
 use Rattle.record_lines.specs.Spelling.{checked_sum}
 use Rattle.record_lines.specs.Sums.{sum_of}
 use Rattle.record_lines.specs.declared.Line.{Line}
-use Rattle.record_srec_line.specs.Srec.{is_s, is_sound, agrees, number_from, count_of, address_of, data_of, fits, data_line, end_line}
+use Rattle.record_srec_line.specs.Srec.{is_s, is_sound, agrees, number_from, count_of, address_of, data_of, data_line, end_line}
 use Rattle.record_srec_line.specs.Srec.{header_line, typed}
 
 -- A line without bytes has no place for them.
