@@ -14,6 +14,7 @@ from benchmark_calls import ROWS, layouts
 from benchmark_count import instructions, manners, native
 
 RECORD = Path(__file__).parent / "instructions.tsv"
+KIT = (manners.ROOT / "KIT").read_text().strip()
 MORE = 1.05
 
 
@@ -36,8 +37,13 @@ def cost(call, words):
     return two - one
 
 
+def recorded_kit():
+    """The kit whose archive the record is of: its first line."""
+    return RECORD.read_text().splitlines()[0].removeprefix("# ")
+
+
 def recorded():
-    lines = RECORD.read_text().splitlines()
+    lines = RECORD.read_text().splitlines()[1:]
     return {(call, given): int(number) for call, given, number in (line.split("\t") for line in lines)}
 
 
@@ -66,7 +72,10 @@ def main():
     with manners.room() as room:
         found = counted(program, room)
     if said.write:
-        RECORD.write_text("".join(f"{call}\t{given}\t{number}\n" for (call, given), number in sorted(found.items())))
+        RECORD.write_text(f"# {KIT}\n" + "".join(f"{call}\t{given}\t{number}\n" for (call, given), number in sorted(found.items())))
+        return
+    if recorded_kit() != KIT:
+        print(f"left out: the instructions of the calls: on record are those of {recorded_kit()}, and this archive is of {KIT}: --write makes the record anew")
         return
     record = recorded()
     less = [key for key in found.keys() & record.keys() if found[key] * MORE < record[key]]

@@ -1,16 +1,16 @@
 #!/bin/sh
 # The bridge for customasm, compiled with customasm's own files and the proved library, and held against customasm's own answers: bridge.sh [LAYOUTS [SEED]]
-# 20,000 layouts and seed 1 if not given, the grids of oracle/generate.py among them. It needs rustc, python3, the archive in target/staticlib (`rt staticlib
-# denkumari` makes it) and what oracle/build.sh needs; oracle/bridge/README.md tells the rest. Says what it skipped for want of something.
+# 20,000 layouts and seed 1 if not given, the grids of oracle/generate.py among them. It needs rustc, python3 and what oracle/build.sh needs;
+# oracle/bridge/README.md tells the rest. The archive is built first where it is not there. Says what it skipped for want of something.
 set -eu
 . "$(dirname "$(readlink -f -- "$0")")/../tools/start.sh"
+. "$home/tools/launch.sh"
 words_at_most 2 "$@"
 layouts=${1:-20000}
 seed=${2:-1}
 a_number LAYOUTS "$layouts"
 a_number SEED "$seed"
 folder=$home/build/bridge
-archive=$home/target/staticlib
 for needed in rustc python3; do
     command -v "$needed" >/dev/null 2>&1 || {
         echo "skipped: the bridge for customasm, for want of $needed"
@@ -25,7 +25,8 @@ done
     echo "left out: the bridge for customasm, since the archive is x86-64 code"
     exit 0
 }
-[ -f "$archive/libdenkumari.a" ] || say "there is no proved archive in target/staticlib: run rt staticlib denkumari"
+build_archive
+archive=$home/${archive%/*}
 "$home/oracle/build.sh" "$folder"
 rustc --edition 2021 -O -D warnings --crate-type rlib --crate-name denkumari -L "native=$archive" -l static=denkumari \
     --out-dir "$folder" "$home/bindings/rust/src/lib.rs"

@@ -344,7 +344,8 @@ def main():
         parser.error(f"there is no program {name}: {', '.join(names)}")
     with manners.room() as room:
         wrong = held_unresolved(asked) if asked.native and not asked.names else 0
-        wrong += sum(held(name, asked, Path(room)) for name in asked.names or names if not (asked.native and name == "reason"))
+        here = [name for name in asked.names or names if (name != "reason" if asked.native else manners.is_here(name))]
+        wrong += sum(held(name, asked, Path(room)) for name in here)
     print("no difference" if not wrong else f"{wrong} differ")
     sys.exit(wrong != 0)
 

@@ -122,27 +122,34 @@ is 2 tools/bench "$room/banks.hex"
 is 2 tools/bench - -
 # one of the two from standard input, and the address in hex as well
 released=crates/prog_overlay/data/released.hex overlay=crates/prog_overlay/data/overlay.hex
-tools/bench "$released" "$overlay" >"$room/runs" && tools/bench "$released" - <"$overlay" >"$room/out" || wrong=1
-same "$room/runs" "$room/out" "tools/bench - prints other runs than for the file"
-has "$room/runs" 'run 264 0x00000108 2 0809 aabb' 'tools/bench released.hex overlay.hex'
-has "$room/runs" 'alone 288 0x00000120' 'tools/bench released.hex overlay.hex'
-# a range that is refused names the file that does not give it, and the address
-is 0 tools/bench "$released" "$overlay" --range 0x108 8
-is 0 tools/bench "$released" "$overlay" --range 0x110 16
-for asked in '0x118 0x10 released.hex.*0x00000120' '0x120 2 released.hex.*0x00000120' '0x100 0 empty' '0x10e 4 overlay.hex.*0x00000110'; do
-    # shellcheck disable=SC2086
-    set -- $asked
-    is 1 tools/bench "$released" "$overlay" --range "$1" "$2"
-    grep -q "$3" "$room/err" || {
-        echo "tools/bench --range $1 $2 says: $(cat "$room/err")"
-        wrong=1
-    }
-done
-# a file of its own: whole, or not at all
-is 0 tools/bench "$released" "$overlay" -o "$room/own"
-same "$room/runs" "$room/own" "tools/bench -o writes another file than it prints"
-is 1 tools/bench "$released" README.md -o "$room/own"
-same "$room/runs" "$room/own" "tools/bench -o changed a file where a file was refused"
+runs_told() {
+    tools/bench "$released" "$overlay" >"$room/runs" && tools/bench "$released" - <"$overlay" >"$room/out" || wrong=1
+    same "$room/runs" "$room/out" "tools/bench - prints other runs than for the file"
+    has "$room/runs" 'run 264 0x00000108 2 0809 aabb' 'tools/bench released.hex overlay.hex'
+    has "$room/runs" 'alone 288 0x00000120' 'tools/bench released.hex overlay.hex'
+    # a range that is refused names the file that does not give it, and the address
+    is 0 tools/bench "$released" "$overlay" --range 0x108 8
+    is 0 tools/bench "$released" "$overlay" --range 0x110 16
+    for asked in '0x118 0x10 released.hex.*0x00000120' '0x120 2 released.hex.*0x00000120' '0x100 0 empty' '0x10e 4 overlay.hex.*0x00000110'; do
+        # shellcheck disable=SC2086
+        set -- $asked
+        is 1 tools/bench "$released" "$overlay" --range "$1" "$2"
+        grep -q "$3" "$room/err" || {
+            echo "tools/bench --range $1 $2 says: $(cat "$room/err")"
+            wrong=1
+        }
+    done
+    # a file of its own: whole, or not at all
+    is 0 tools/bench "$released" "$overlay" -o "$room/own"
+    same "$room/runs" "$room/own" "tools/bench -o writes another file than it prints"
+    is 1 tools/bench "$released" README.md -o "$room/own"
+    same "$room/runs" "$room/own" "tools/bench -o changed a file where a file was refused"
+}
+if [ -f "$released" ]; then
+    runs_told
+else
+    echo "left out: the runs of released.hex and overlay.hex: prog_overlay is not here (PORTING-LEFT.md)"
+fi
 for tool in layout map; do
     "tools/$tool" examples/banks.form >"$room/printed" || wrong=1
     is 0 "tools/$tool" examples/banks.form -o "$room/own"
@@ -166,14 +173,21 @@ worked() { # NAME
     # shellcheck disable=SC2059
     printf "$(cat "$room/octal")"
 }
-worked inForm1 >"$room/worked1" && worked inForm2 >"$room/worked2" || wrong=1
-[ "$(wc -c <"$room/worked1") $(wc -c <"$room/worked2")" = '75 120' ] || {
-    echo "the worked file has not 75 bytes in form 1 and 120 in form 2"
-    wrong=1
+worked_file() {
+    worked in_form1 >"$room/worked1" && worked in_form2 >"$room/worked2" || wrong=1
+    [ "$(wc -c <"$room/worked1") $(wc -c <"$room/worked2")" = '75 120' ] || {
+        echo "the worked file has not 75 bytes in form 1 and 120 in form 2"
+        wrong=1
+    }
+    tools/convert "$room/worked1" --to 2 >"$room/out" && tools/convert "$room/worked2" --to 1 >"$room/back" || wrong=1
+    same "$room/worked2" "$room/out" "the worked file is not in form 2 what its theorem says"
+    same "$room/worked1" "$room/back" "the worked file is not in form 1 what its theorem says"
 }
-tools/convert "$room/worked1" --to 2 >"$room/out" && tools/convert "$room/worked2" --to 1 >"$room/back" || wrong=1
-same "$room/worked2" "$room/out" "the worked file is not in form 2 what its theorem says"
-same "$room/worked1" "$room/back" "the worked file is not in form 1 what its theorem says"
+if [ -f crates/meets_convert/specs/Theorems/Example.antt ]; then
+    worked_file
+else
+    echo "left out: the worked file of meets_convert's theorems: the crate is not here (PORTING-LEFT.md)"
+fi
 is 1 tools/convert examples/banks.form --to 1
 is 1 tools/convert "$room/two" --to 2
 is 2 tools/convert "$room/two" --to 3
@@ -497,67 +511,54 @@ if command -v python3 >/dev/null 2>&1; then
 fi
 refused 'refused 4 0' 'it looks like Intel HEX' tools/layout "$room/made.hex"
 refused '' 'it looks like S-records' tools/map "$room/made.s37"
-# a first build says how far it is, takes crates as soon as what they stand on is proved, and leaves nothing but what is proved; with a stand-in for rt that
-# proves nothing. One that fails is said, and the next run tries again
+# a program is built by `rt run` in its crate's folder, whatever the program ends with, once for the same files; with a stand-in for rt that proves nothing.
+# One that is not built is said, with the end of what rt said, and the next run tries again
 mkdir -p "$room/first/crates/prog/src" "$room/first/bin" && cp -R tools "$room/first/" && : >"$room/first/crates/prog/src/main.rt" || wrong=1
-printf 'low:\nleft: low\nright: low # remark\nhigh: left right\nprog: low high io\n' >"$room/first/crates.txt"
+mkdir "$room/first/crates/low" "$room/first/portable" && cp portable/PRINTED "$room/first/portable/" || wrong=1
+printf 'low:\nlate staticlib: low\nprog: low # remark\n' >"$room/first/crates.txt"
 cat >"$room/first/bin/rt" <<'RT'
 #!/bin/sh
-# rt check NAME: each crate that it stands on has its stamp, or it is none
-prove() {
-    for need in $(sed -n "s/#.*//;s/^$1://p" crates.txt); do
-        [ "$need" = io ] || [ -f "target/stamp/$need" ] || { echo "rt: $1 NOT PROVED: $need is not" && exit 1; }
-    done
-    [ ! -e "$calls/fails" ] || [ "$1" != high ] || { echo "rt: $1 NOT PROVED" && exit 1; }
-    [ ! -f "target/stamp/$1" ] || { echo "rt: $1 proved (unchanged since it was last proved)" && return; }
-    echo "$1 in ${PWD##*/}" >>"$calls/calls"
-    echo "rt: $1 proved (3 s)"
-    : >"target/stamp/$1"
-}
 case $1 in
 version) echo stand-in ;;
-doc) echo /nowhere/docs/START-HERE.md ;;
-check)
-    mkdir -p target/stamp target/log
-    case $2 in
-    prog) set -- low left right high prog ;;
-    *) set -- "$2" ;;
-    esac
-    for one in "$@"; do
-        prove "$one"
-    done
-    [ "$1" = "$one" ] || { mkdir -p target/bin && printf '#!/bin/sh\necho ran\n' >target/bin/prog && chmod +x target/bin/prog; }
+doc) echo /nowhere/START-HERE.md ;;
+run)
+    echo "$1 in ${PWD##*/}" >>"$calls/calls"
+    [ ! -e "$calls/fails" ] || { echo "rt: prog NOT PROVED" && exit 1; }
+    echo 'fn prog::main: proved'
+    mkdir -p out && printf '#!/bin/sh\necho ran\n' >out/prog && chmod +x out/prog
+    exit 5
     ;;
 esac
 RT
 chmod +x "$room/first/bin/rt"
 # shellcheck disable=SC2317
 first() {
-    env PATH="$room/first/bin:$PATH" RT_JOBS=2 calls="$room/first" "$room/first/tools/run" --build prog
+    env PATH="$room/first/bin:$PATH" calls="$room/first" "$room/first/tools/run" "$@"
 }
 : >"$room/first/fails"
-is 2 first
-has "$room/err" 'crate [23] of 5, [0-9]* s: left' 'a first build that fails'
+is 2 first --build prog
 has "$room/err" 'tools/run: the program prog was not built: .*' 'a first build that fails'
-has "$room/err" 'rt: high NOT PROVED' 'a first build that fails'
+has "$room/err" 'rt: prog NOT PROVED' 'a first build that fails'
 rm "$room/first/fails"
-is 0 first
-has "$room/err" 'crate 5 of 5, [0-9]* s: prog' 'a build after one that failed'
-! grep -q ': low$' "$room/err" || wrong=1
-rm -rf "$room/first/target" "$room/first/calls"
-is 0 first
-has "$room/err" 'crate 4 of 5, [0-9]* s: high' 'a first build'
-has "$room/first/calls" 'high in high' 'a first build, each in a folder of its own'
-has "$room/first/calls" 'prog in first' 'a first build, the last where it belongs'
-if [ "$(wc -l <"$room/first/calls")" -ne 5 ] || [ -e "$room/first/target/first" ]; then
-    echo "a first build proves something twice, or leaves its folders"
-    wrong=1
-fi
-is 0 first
+is 0 first --build prog
+has "$room/err" 'building the program prog: .*' 'a first build'
+has "$room/first/calls" 'run in prog' 'a first build'
+is 0 first --build prog
 [ ! -s "$room/err" ] || {
     echo "a program that is built is built again: $(cat "$room/err")"
     wrong=1
 }
+has "$room/first/target/bin/prog" 'echo ran' 'a program that was built'
+echo changed >"$room/first/crates/low/file"
+is 0 first --build prog
+[ "$(wc -l <"$room/first/calls")" -eq 3 ] || {
+    echo "a program is not built again where a crate below it changed"
+    wrong=1
+}
+# a program that is still to come
+mkdir -p "$room/first/crates/late/src" && : >"$room/first/crates/late/src/main.rt" && sed -i '/^late/d' "$room/first/crates.txt" || wrong=1
+is 2 first --build late
+has "$room/err" 'tools/run: the program late is not in crates.txt: .*' 'a program that is still to come'
 # what no program says is no refusal
 for said in hello 'refused 12' 'refused 20 0' 'refused 12 a b'; do
     is 2 tools/words examples/clamp-mark-after.form "$said"

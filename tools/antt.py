@@ -30,7 +30,7 @@ def edits():
 
 def refused_at():
     """edit: the file and the declaration that the check refused it at (tools/refused)."""
-    lines = (line.split('\t') for line in read(REFUSED).splitlines()) if os.path.exists(os.path.join(ROOT, REFUSED)) else ()
+    lines = (line.split('\t') for line in read(REFUSED).splitlines() if line[:1] != '#') if os.path.exists(os.path.join(ROOT, REFUSED)) else ()
     return {edit: (file, name) for edit, file, name in lines}
 
 

@@ -9,3 +9,5 @@ crate_reason=prog_reason
 crate_bencher=prog_overlay
 crate_converter=prog_convert
 crate_library=denkumari
+# the thin crate over it whose exports are the calls of include/denkumari.h
+crate_archive=denkumari_c

@@ -24,7 +24,7 @@ sum_of() (
         uname -m
         sed 's/#.*//' crates.txt
         # shellcheck disable=SC2046
-        find $(stands_on "$1") -name must-fail -prune -o -type f -exec sha256sum {} + | LC_ALL=C sort
+        find $(stands_on "$1") \( -name must-fail -o -name out \) -prune -o -type f -exec sha256sum {} + | LC_ALL=C sort
         sha256sum <"$2"
     } 2>/dev/null | sha256sum
 )
@@ -39,26 +39,28 @@ alone() {
     ! command -v flock >/dev/null 2>&1 || flock 9
 }
 
-# build CRATE PRODUCT VERB WORDS: runs `rt VERB CRATE` where the product is not that of the files that are here. What is proved is said as it goes.
+# build CRATE PRODUCT VERB MADE WORDS: runs `rt VERB` in the crate's folder where the product is not that of the files that are here, and takes what it made in
+# the crate's out/. What is proved is said as it goes. `rt run` also starts the program, with nothing to read: how that ends does not matter here.
 build() {
     wants_rt
-    grep -q "^$1:" "$home/crates.txt" || say "there is no crate $1"
+    is_listed "$1" || say "there is no crate $1"
     ! is_built "$1" "$2" || return 0
-    mkdir -p "$home/target/sum" || say "target/ cannot be written"
+    mkdir -p "$home/target/sum" "$home/${2%/*}" || say "target/ cannot be written"
     log=target/sum/$1.log
     (
         alone
         ! is_built "$1" "$2" || exit 0
-        echo "building $4: its crates are proved first, which takes some minutes where nothing is proved yet" >&2
+        echo "building $5: its crates are proved first, which takes some minutes where nothing is proved yet" >&2
         cd "$home" || exit 2
+        rm -f "crates/$1/out/$4"
         {
             run_rt "$3" "$1"
             echo "status $?"
-        } 2>&1 | progress "$log" "$1" || exit 1
-        sum_of "$1" "$2" >"target/sum/$1"
+        } 2>&1 | progress "$log" || [ "$3" = run ] || exit 1
+        [ -f "crates/$1/out/$4" ] && kept "$1" "crates/$1/out/$4" "$2" || exit 1
     ) || {
         [ ! -f "$home/$log" ] || tail -n 5 "$home/$log" >&2
-        say "$4 was not built: $log has the whole account"
+        say "$5 was not built: $log has the whole account"
     }
 }
 build_program() {
@@ -67,11 +69,74 @@ build_program() {
         return 0
     fi
     [ -f "$home/crates/$1/src/main.rt" ] || say "there is no program $1"
-    build "$1" "target/bin/$1" check "the program $1"
+    is_listed "$1" || say "the program $1 is not in crates.txt: PORTING-LEFT.md lists what is still to come"
+    build "$1" "target/bin/$1" run "$1" "the program $1"
 }
+# The archive, under the name that callers link it by: the proved one, or, where its crate is still to come, the same calls as C (portable/), which any C
+# compiler compiles.
 archive=target/staticlib/lib$crate_library.a
 build_archive() {
-    build "$crate_library" "$archive" staticlib "the archive"
+    if is_listed "$crate_archive"; then
+        build "$crate_archive" "$archive" lib "lib$crate_archive.a" "the archive"
+        return
+    fi
+    archive=build/portable/lib$crate_library.a
+    # an archive of other sources is nobody's
+    rm -f "$home/target/staticlib/lib$crate_library.a"
+    compile_archive
+    echo "left out: the proved archive: $crate_archive is not in crates.txt (PORTING-LEFT.md); portable/denkumari.c stands in its place"
+}
+
+compile_archive() (
+    cd "$home" || exit 2
+    mkdir -p build/portable target/sum || say "build/ cannot be written"
+    alone
+    # nobody asks for files' times elsewhere, but here one file is compiled, by a compiler that does not change
+    [ -z "$(find "$archive" -newer portable/denkumari.c 2>/dev/null)" ] || exit 0
+    compiler=
+    for one in "${CC:-cc}" gcc clang; do
+        [ -n "$compiler" ] || ! command -v "$one" >/dev/null 2>&1 || compiler=$one
+    done
+    [ -n "$compiler" ] || say "there is no C compiler: cc, gcc and clang are not on the PATH"
+    rm -f "$archive.part"
+    { "$compiler" -std=c99 -O3 -fPIC -Iinclude -c portable/denkumari.c -o build/portable/denkumari.o && ar crs "$archive.part" build/portable/denkumari.o; } ||
+        say "portable/denkumari.c was not compiled"
+    mv -f "$archive.part" "$archive"
+)
+
+# What `rt ci` has just built, kept for who comes next: its programs, and the archive, built over the libraries that it proved. For tools/test alone, which
+# calls it right behind `rt ci`: nothing here looks whether what lies in out/ is of the files that are here. What is not there is built when it is asked for.
+take_from_ci() (
+    cd "$home" || exit 2
+    mkdir -p target/sum target/bin target/staticlib || say "target/ cannot be written"
+    alone
+    for one in crates/*/src/main.rt; do
+        one=${one#crates/} one=${one%%/*}
+        ! is_listed "$one" || [ ! -f "crates/$one/out/$one" ] || kept "$one" "crates/$one/out/$one" "target/bin/$one"
+    done
+    is_listed "$crate_archive" || exit 0
+    kit=$(dirname "$(rt doc)")
+    set -- --crate-name "$crate_archive" src/lib.rt --extern "std=$kit/rlibs/std.rlib" -L "dependency=$kit/rlibs" --links "$crate_archive="
+    deps=$(sed 's/#.*//' crates.txt | sed -n "s/^${crate_archive}[^:]*://p")
+    for one in $deps; do
+        if is_listed "$one"; then from=$home/crates/$one/out/rlib; else from=$kit/rlibs; fi
+        set -- "$@" --extern "$one=$from/$one.rlib"
+    done
+    for one in $(stands_on "$crate_archive" | grep -vxF "crates/$crate_archive"); do
+        set -- "$@" -L "dependency=$home/$one/out/rlib" --links "${one#crates/}="
+    done
+    mkdir -p "crates/$crate_archive/out" && cd "crates/$crate_archive" || exit 2
+    "$kit/bin/rattle" build "$@" --crate-type staticlib --antt-project "$kit/rattle/logic/antt-project.json" --logic-built "$kit/logic_built" --jobs 2 \
+        --toolchain "$kit/toolchain" -o "out/lib$crate_archive.a" >"$home/target/sum/$crate_archive.log" 2>&1 </dev/null || {
+        tail -n 5 "$home/target/sum/$crate_archive.log"
+        echo "the archive is not built over what rt ci left: rt lib builds it"
+        exit 0
+    }
+    cd "$home" && kept "$crate_archive" "crates/$crate_archive/out/lib$crate_archive.a" "$archive"
+)
+# kept CRATE MADE PRODUCT: under another name first, so that nobody finds a part of it.
+kept() {
+    cp "$2" "$3.part" && mv -f "$3.part" "$3" && sum_of "$1" "$3" >"target/sum/$1"
 }
 
 # An emulator of x86-64: none where the machine is one, else the kit's, else Debian's. Status 1 says that it wants one and there is none.
@@ -87,7 +152,7 @@ find_emulator() {
 }
 parts=
 find_parts() {
-    [ -n "$parts" ] || [ -n "$installed" ] || parts=${RATTLE_HOME:-$(dirname "$(dirname "$(rt doc)")")}/on/$(uname -m)/toolchain
+    [ -n "$parts" ] || [ -n "$installed" ] || parts=${RATTLE_HOME:-$(dirname "$(rt doc)")}/toolchain
 }
 
 # launch NAME ..: a program of target/bin, with the kit's own C library. launch_file FILE ..: a program that stands by itself. With `by=exec` it takes the

@@ -1,7 +1,7 @@
 # shellcheck shell=sh
 # Starts the command denkumari (command/) for the tools that are its commands; they read it, nobody runs it. The command is compiled once into build/, by any
-# C compiler, from command/ and from portable/, the proved functions as C. That takes some seconds and needs no kit. Where crates/ is no longer what
-# portable/ was printed from nothing is started: tools/portable --write prints it anew. As installed (tools/install) nothing is compiled.
+# C compiler, from command/ and from portable/, the proved functions as C. That takes some seconds and needs no kit. Where portable/ is no longer what was
+# printed (portable/PRINTED) nothing is started. As installed (tools/install) nothing is compiled.
 [ "${0##*/}" != native.sh ] || . "$(dirname "$(readlink -f -- "$0")")/start.sh"
 here=$(readlink -f -- "$0") || exit 2
 home=${here%/*}
@@ -14,12 +14,9 @@ give_up() {
     exit 2
 }
 
-# What the command is made from, in one number: also the sources that portable/ is to be printed from, which is looked at where it is compiled.
+# What the command is made from, in one number: also what portable/ is to have been printed from, which is looked at where it is compiled.
 native_sum() (
-    cd "$home" && {
-        find crates -path '*/src/*' -name '*.rt' -exec sha256sum {} + | LC_ALL=C sort
-        sha256sum crates.txt KIT include/denkumari.h command/*.[ch] command/*.def portable/texts.[ch] portable/denkumari.c
-    } | sha256sum | cut -c 1-16
+    cd "$home" && sha256sum include/denkumari.h command/*.[ch] command/*.def portable/texts.[ch] portable/denkumari.c portable/PRINTED | sha256sum | cut -c 1-16
 )
 
 # compile_native FILE [COMMIT]: made under another name and then put in its place, so that two that start at once do no harm. --version says the commit; of what
@@ -27,7 +24,7 @@ native_sum() (
 compile_native() {
     . "$home/tools/portable.sh"
     { is_fresh texts.c && is_fresh texts.h && is_fresh denkumari.c; } ||
-        give_up "crates/ is not what portable/ was printed from: tools/portable --write prints it anew"
+        give_up "portable/ is not what was printed (portable/PRINTED): tools/portable --fresh says which file"
     for compiler in "${CC:-cc}" gcc clang tcc ''; do
         [ -z "$compiler" ] || ! command -v "$compiler" >/dev/null 2>&1 || break
     done
@@ -40,7 +37,7 @@ compile_native() {
         new=$home/build/.denkumari.$$
         trap 'rm -f -- "$new"' EXIT
         trap 'exit 130' HUP INT TERM
-        if ! "$compiler" -std=c99 -O2 -DDENKUMARI_KIT="\"$(cat "$home/KIT")\"" -DDENKUMARI_SOURCES="\"$sources\"" ${2:+-DDENKUMARI_COMMIT="\"$2\""} \
+        if ! "$compiler" -std=c99 -O2 -DDENKUMARI_KIT="\"$printed_kit\"" -DDENKUMARI_SOURCES="\"$sources\"" ${2:+-DDENKUMARI_COMMIT="\"$2\""} \
             -I"$home/include" -I"$home/portable" -o "$new" "$home"/command/*.c "$home/portable/texts.c" "$home/portable/denkumari.c" >&2 ||
             ! mv -f -- "$new" "$1"; then give_up "the command was not compiled"; fi
     ) || exit

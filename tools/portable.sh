@@ -1,5 +1,5 @@
 # shellcheck shell=sh
-# Whether crates/ is what portable/ was printed from; scripts read it behind start.sh, nobody runs it. It wants sha256sum and awk: no kit, no Python.
+# Whether portable/ is what was printed, and from what; scripts read it behind start.sh, nobody runs it. It wants sha256sum and awk: no kit, no Python.
 #
 # The sum of some crates' sources is that of the lines that sha256sum prints for crates.txt and for each src/**/*.rt of those crates and of all that they stand
 # on by crates.txt, sorted by their paths as bytes.
@@ -28,9 +28,19 @@ sum_for() {
     sources_sum $(printed_from "$1")
 }
 
-# is_fresh FILE: whether a file of portable/ was printed from the sources that are here, and nobody has changed it since: its head has both sums.
+# What portable/PRINTED says: the kit that printed portable/, the commit whose sources it was printed from, and the sum of these for each file.
+# shellcheck disable=SC2034
+files='denkumari.c texts.c texts.h'
+printed_kit=$(sed -n 's/^kit: //p' "$home/portable/PRINTED")
+# shellcheck disable=SC2034
+printed_commit=$(sed -n 's/^commit: //p' "$home/portable/PRINTED")
+sources_of() {
+    sed -n 's/^ \* sources: //p' "$home/portable/$1"
+}
+
+# is_fresh FILE: whether a file of portable/ is what was printed: nobody has changed it since, and its head names the kit and the sources of portable/PRINTED.
 is_fresh() {
     printed=$home/portable/$1
-    [ -f "$printed" ] && [ "$(sed -n 's/^ \* sources: //p' "$printed")" = "$(sum_for "$1")" ] \
+    [ -f "$printed" ] && [ "$(sed -n 's/^ \* kit: //p' "$printed")" = "$printed_kit" ] && grep -qxF "sources: $(sources_of "$1") $1" "$home/portable/PRINTED" \
         && [ "$(sed -n 's/^ \* text: //p' "$printed")" = "$(sed '1,/^ \*\/$/d' "$printed" | sha256sum | cut -d ' ' -f 1)" ]
 }

@@ -41,7 +41,7 @@ def compiled_files():
 def wasm_sources():
     """Everything that the WebAssembly is made from."""
     read = [*(ROOT / "command").glob("*.[ch]"), *(ROOT / "command").glob("*.def"), *HERE.glob("*.c"), *(HERE / "libc").glob("*.h")]
-    read += [*PROVED, ROOT / "portable" / "texts.h", ROOT / "include" / "denkumari.h", ROOT / "KIT"]
+    read += [*PROVED, ROOT / "portable" / "texts.h", ROOT / "include" / "denkumari.h"]
     return sorted(set(read) - {ROOT / "command" / "system.c"})
 
 
@@ -65,7 +65,8 @@ def compiled():
     with manners.room() as room:
         objects = []
         printed = [re.search(r"^ \* sources: (\S+)$", file.read_text(), re.MULTILINE)[1] for file in PROVED]
-        told = [f'-DDENKUMARI_KIT="{(ROOT / "KIT").read_text().strip()}"', f'-DDENKUMARI_SOURCES="{" ".join(printed)}"']
+        kit = re.search(r"^ \* kit: (.+)$", PROVED[0].read_text(), re.MULTILINE)[1]
+        told = [f'-DDENKUMARI_KIT="{kit}"', f'-DDENKUMARI_SOURCES="{" ".join(printed)}"']
         found = [f"-isystem{HERE / 'libc'}", f"-I{ROOT / 'include'}", f"-I{ROOT / 'portable'}", f"-I{ROOT / 'command'}"]
         for file in compiled_files():
             objects.append(str(room / f"{file.parent.name}-{file.stem}.o"))

@@ -1,4 +1,4 @@
-// Finds the library to link. On x86-64 Linux that is the proved archive libdenkumari.a, which `rt staticlib denkumari` writes, where it is at hand: in the
+// Finds the library to link. On x86-64 Linux that is the proved archive libdenkumari.a, which bindings/build.sh builds, where it is at hand: in the
 // repository, or in the installation that this crate stands in (tools/install). Elsewhere, and where there is none, the same code as C (portable/denkumari.c,
 // docs/PORTABLE.md) is compiled, by CC or the first of cc, gcc and clang. DENKUMARI_LIB names the folder of a libdenkumari.a to be taken and no other;
 // DENKUMARI_PORTABLE=1 takes the C in any case.

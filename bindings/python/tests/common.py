@@ -26,7 +26,7 @@ def draw(what):
 
 
 def library():
-    """What the C programs are linked with: the kit's archive where it is built, else the library that the package loads."""
+    """What the C programs are linked with: the proved archive where it is built, else the library that the package loads."""
     archive = ROOT / "target" / "staticlib" / "libdenkumari.a"
     if archive.is_file() and platform.machine() == "x86_64":
         return archive
