@@ -1,5 +1,5 @@
 -- A turn of the loop ends the text, refuses a character, or reads a digit on.
-use Rattle.std.proofs.Common.{◌≡◌, ◌∙◌, ◌+◌, ◌*◌, ℕ, sym, ap, arith, drop}
+use Rattle.std.proofs.Common.{◌∙◌, ◌+◌, ◌*◌, ℕ, sym, ap, arith, drop}
 use Rattle.prog_args.specs.Number.{base_of, number_from}
 use Rattle.prog_args.specs.Theorems.Number.{past-stays-past}
 use Rattle.prog_args.proofs.Laws.{some-text, no_digit, digit-on, digits-end}

@@ -2,15 +2,12 @@
 use Rattle.std.specs.Prelude.{List, [], ◌∷◌, ℕ, ◌+◌, ◌*◌, ◌≤◌, ◌<◌, length}
 use Rattle.std.proofs.Common.{arith, length-append}
 use Rattle.prelude.specs.Refusals.{number_of, place_of}
-use Rattle.prelude.specs.declared.Place.{Place}
-use Rattle.prelude.specs.declared.Place.TheVariants.{One, Two}
 use Rattle.prelude.specs.declared.Refusal.{Refusal}
 use Rattle.print_text.specs.Ascii.{ascii}
 use Rattle.print_text.specs.Decimal.{decimal}
 use Rattle.print_text.specs.Lines.{line, spaced, place_numbers, refusal_text}
 use Rattle.print_text.specs.Laws.Lengths.{line-length, number-few, two-places}
 use Rattle.print_text.specs.Theorems.Decimal.{decimal-length}
-use Rattle.prog_args.specs.Text.{line_room}
 
 -- A number of 64 bits has at most twenty digits,
 abbrev pub Word : ℕ → Type 0

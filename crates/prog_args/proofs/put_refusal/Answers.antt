@@ -1,27 +1,18 @@
--- `prog_args::put_refusal` meets its contract: every refusal's line fits, so that the buffer is never too short.
-use mathlib.Core.Path.{◌≡◌, sym, ◌∙◌}
-use Prim.Native.Nat.{◌≤◌}
-use native.Mathlib.Omega.{arith}
-use lib.ListN.{length}
-use Rattle.print_text.specs.Lines.{refusal_text}
-use Rattle.prog_args.specs.Text.{line_room}
-use Rattle.prog_args.specs.Laws.Text.{never-short, to_same, put-ends, put-stands}
-use Rattle.prog_args.specs.Theorems.Text.{AllWords, refusal-fits}
+-- Every refusal's line fits, so that the buffer is never too short.
 use borrow.Fn.Kinds.{GoodsP}
 use contract.Lifetimes.{Lfts}
+use Rattle.std.proofs.Common.{◌≤◌, ◌∙◌, sym, arith, length}
 use Rattle.prelude.specs.declared.Refusal.{Refusal}
 use Rattle.prelude.specs.declared.Refusal.TheVariants.{BankCount, BankNumber, BanksOverlap, Malformed, PositionPast, LabelOffBoundary, Unresolved}
 use Rattle.prelude.specs.declared.Refusal.TheVariants.{DefaultBank, PastBank, NoOutput, Overlap, StoreFull, TooShort, BadStore, BadPart}
 use Rattle.prelude.specs.declared.Refusal.TheVariants.{PartlyCovered, FillBitDropped, OffProfile}
 use Rattle.prelude.specs.Refusals.{place_of}
-use Rattle.print_text.specs.Lines.{place_numbers}
+use Rattle.print_text.specs.Lines.{place_numbers, refusal_text}
+use Rattle.prog_args.specs.Text.{line_room}
+use Rattle.prog_args.specs.Laws.Text.{never-short, to_same, put-ends, put-stands}
+use Rattle.prog_args.specs.Theorems.Text.{AllWords, refusal-fits}
 use Rattle.prog_args.proofs.put_refusal.Kinds as kinds
-use borrow.Author.Rules.{rules}
-use Rattle.prog_args.proofs.put_refusal.Statement.{statement}
-use Rattle.prog_args.proofs.put_refusal.Tie as tie
-
-abbrev begin : tie.After-put-refusal → tie.Start
-begin d = d.before.before.before
+use Rattle.prog_args.proofs.put_refusal.Goals as goal
 
 words : (κs : Lfts 1) (why : Refusal) (rest : _) → GoodsP κs kinds.ps (why, rest) → AllWords (place_numbers (place_of why))
 words κs BankCount rest g = (omega arith, tt)
@@ -43,25 +34,21 @@ words κs (BanksOverlap p q) rest g = (omega (arith, g.0.1.1.1.1.0.1), (omega (a
 words κs (Overlap p q) rest g = (omega (arith, g.0.1.1.1.1.0.1), (omega (arith, g.0.1.1.1.1.1.0.1), tt))
 words κs (OffProfile p q) rest g = (omega (arith, g.0.1.1.1.1.0.1), (omega (arith, g.0.1.1.1.1.1.0.1), tt))
 
-short : (s : tie.Start) → length (refusal_text s.args.why) ≤ line_room
-short s = omega (arith, refusal-fits s.args.why (words s.lifetimes s.args.why (s.args.out, tt) s.well-formed))
+short : (κs : Lfts 1) (why : Refusal) (rest : _) → GoodsP κs kinds.ps (why, rest) → length (refusal_text why) ≤ line_room
+short κs why rest g = omega (arith, refusal-fits why (words κs why rest g))
 
-fits : (s : tie.Start) → length (refusal_text s.args.why) ≤ length s.args.out.now
-fits s = omega (arith, short s, s.requires)
+pub returns-in_default-clause-stands : goal.returns-in_default-clause-stands
+returns-in_default-clause-stands c =
+    let fits : length (refusal_text c.args.why) ≤ length c.args.out.now = omega (arith, short c.lifetimes c.args.why (c.args.out, tt) c.well_formed, c.requires) in
+    absurd (never-short (sym (put-ends c.put_refusal.ensures fits) ∙ c.in_default.is))
 
-returns : tie.Need-returns
-returns c =
-    let d = c.before.before.before.before in
-    absurd (never-short (sym (put-ends d.put-refusal.ensures (fits (begin d))) ∙ c.enum_told.given.1))
+pub returns-clause-stands : goal.returns-clause-stands
+returns-clause-stands c =
+    let fits : length (refusal_text c.args.why) ≤ length c.args.out.now = omega (arith, short c.lifetimes c.args.why (c.args.out, tt) c.well_formed, c.requires) in
+    put-stands c.put_refusal.ensures fits (to_same (sym c.in-To.is ∙ put-ends c.put_refusal.ensures fits))
 
-returns-2 : tie.Need-returns-2
-returns-2 c =
-    let d = c.before.before.before.before.before in
-    let ends = to_same (sym c.before.end.given.1 ∙ put-ends d.put-refusal.ensures (fits (begin d))) in
-    (put-stands d.put-refusal.ensures (fits (begin d)) ends, omega (arith, ends, short (begin d)))
-
-pub put-refusal-spec : {M : Type 1} → statement M
-put-refusal-spec =
-    tie.close
-    (tie.spec
-    (λ c κs. search rules) (λ c. search rules) (λ c. search rules) (λ c. search rules) returns (λ c. search rules) returns-2)
+pub returns-clause-upper_bound : goal.returns-clause-upper_bound
+returns-clause-upper_bound c =
+    let room = short c.lifetimes c.args.why (c.args.out, tt) c.well_formed in
+    let fits : length (refusal_text c.args.why) ≤ length c.args.out.now = omega (arith, room, c.requires) in
+    omega (arith, room, to_same (sym c.in-To.is ∙ put-ends c.put_refusal.ensures fits))
