@@ -26,7 +26,8 @@ pub within-unique : OneOutcome 1 within-kinds.ps within-kinds.r within-reads.Lea
 within-unique κs a x y e f p q = determined p.0 q.0
 
 -- What prints takes a handle: its type, the laws of that, what it says of printing, and its row of functions.
-pub print-unique : (T : RattleType) (l : Laws T) (g : Ghosts T.Denot) (d : Dict) → OneOutcome 3 (print-kinds.ps T l) (print-kinds.r T l) (print-reads.Learnt T l g d)
+pub print-unique : (T : RattleType) (l : Laws T) (g : Ghosts T.Denot) (d : Dict)
+    → OneOutcome 3 (print-kinds.ps T l) (print-kinds.r T l) (print-reads.Learnt T l g d)
 print-unique T l g d κs a x y e f p q = determined p q
 
 pub put-refusal-unique : OneView 1 put-refusal-kinds.ps put-refusal-kinds.r put-refusal-reads.Learnt (ℕ × List ℕ) (λ κs x e. (x, e.1.0.now))
