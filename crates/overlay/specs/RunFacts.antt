@@ -3,7 +3,6 @@ use Rattle.std.specs.Prelude.{◌≡◌, true, List, ℕ, ◌+◌, ◌*◌, ◌�
 use Rattle.blocks.specs.declared.Block.{Block}
 use Rattle.blocks.specs.Walk.{block}
 use Rattle.overlay.specs.Cover.{covered_bit}
-use Rattle.overlay.specs.Runs.{listed}
 use Rattle.overlay.specs.Trial.{Trial}
 
 -- Byte b is one of the bytes of some run of the list.

@@ -13,7 +13,7 @@ use Rattle.prelude.specs.Pick.{pick}
 use Rattle.blocks.specs.declared.Block.{Block}
 use Rattle.blocks.specs.Walk.{block}
 use Rattle.overlay.specs.Laws.CoverFacts.{either, clash}
-use Rattle.overlay.specs.Runs.{length_from, runs_from, listed}
+use Rattle.overlay.specs.Runs.{length_from, runs_from}
 use Rattle.overlay.specs.RunFacts.{Holds}
 
 holds-next : (r : Block) (l : List Block) (b : ℕ) → Holds l b → Holds (r ∷ l) b

@@ -5,7 +5,7 @@ use Rattle.std.proofs.Common.{sym, ◌∙◌}
 use Rattle.prelude.specs.Laws.Bools.{unlike}
 use Rattle.prelude.specs.Pick.{pick}
 use Rattle.prelude.specs.declared.Refusal.TheVariants.{TooShort}
-use Rattle.blocks.specs.Outcome.{sizes, room_for}
+use Rattle.blocks.specs.Outcome.{room_for}
 use Rattle.blocks.specs.Theorems.Exactly.{room-exactly}
 use Rattle.overlay.specs.declared.Listed.{Listed}
 use Rattle.overlay.specs.declared.Listed.TheVariants.{Runs, Refused}

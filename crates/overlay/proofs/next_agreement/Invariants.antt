@@ -1,0 +1,11 @@
+-- `next_agreement` meets its contract: what is passed and what is left make up the whole length.
+use mathlib.Core.Path.{◌≡◌}
+use Prim.Native.Nat.{◌+◌, ◌-◌}
+use Rattle.overlay.specs.Runs.{differ, length_from}
+use Rattle.overlay.proofs.next_agreement.Given as goal
+
+abbrev pub invariant-loop-i : goal.invariant-loop-i
+invariant-loop-i l = l.at + length_from (differ l.overlay l.released) l.at (l.to - l.at) ≡ l.i + length_from (differ l.overlay l.released) l.i (l.to - l.i)
+
+abbrev pub decreases-loop-i : goal.decreases-loop-i
+decreases-loop-i l = l.to - l.i
