@@ -1,10 +1,9 @@
 -- Laws that Theorems/Bits rests on.
-use Rattle.std.specs.Prelude.{◌≡◌, refl, true, false}
+use Rattle.std.specs.Prelude.{◌≡◌, refl, true}
 use Rattle.std.proofs.Common.{sym, ⊎_elim, true≢false}
 use Rattle.std.proofs.Math.Bool.{or-true}
 use mathlib.Core.List.Memᴰ
 use mathlib.Core.List.{List, [], ◌∷◌, Memᴰ}
-use Rattle.prelude.specs.Laws.Bools.{both}
 use Rattle.overlap_checker.specs.declared.Entry.{Entry}
 use Rattle.overlap_checker.specs.Interval.{clashes}
 use Rattle.overlap_checker.specs.Offers.{clashes_any}

@@ -9,7 +9,6 @@ use Rattle.overlap_checker.specs.Interval.{end, ShareBit}
 use Rattle.overlap_checker.specs.Stored.{at_fault, first_fault, Proper}
 use Rattle.overlap_checker.specs.Marks.{mark_at_fault, first_mark_fault, ProperMarks}
 use Rattle.overlap_checker.specs.Laws.MarkLaws.{Resting, lies, no-mark-fault, resting-proper, proper-resting}
-use Rattle.overlap_checker.specs.Lent.{Lent}
 use Rattle.overlap_checker.specs.Folds.{RefusedBy}
 use Rattle.overlap_checker.specs.Laws.Ascending.{told, lt-or-le, sits-at}
 use Rattle.overlap_checker.specs.Ascending.{Ascending}

@@ -8,7 +8,6 @@ use Rattle.overlap_checker.specs.declared.Entry.{Entry}
 use Rattle.overlap_checker.specs.Interval.{Within}
 use Rattle.overlap_checker.specs.State.{answer}
 use Rattle.overlap_checker.specs.Lent.{Lent, state_in, Sound, Offers, checks, call_answer, call_figures, Calls}
-use Rattle.overlap_checker.specs.Laws.Ascending.{told}
 use Rattle.overlap_checker.specs.Theorems.Ascending.{not-past}
 use Rattle.overlap_checker.specs.Theorems.Answers.{told-answer}
 use Rattle.overlap_checker.specs.Laws.Checks.{checks-map, checks-passes, sound-fine}

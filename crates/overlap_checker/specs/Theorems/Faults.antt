@@ -3,12 +3,11 @@
 -- the first interval, or else the first mark, with which those before it are not proper.
 use Rattle.std.specs.Prelude.{◌≡◌, ◌↔◌, List, suc, ◌≤◌, ◌<◌, length, take}
 use Rattle.prelude.specs.Limits.{max_stored}
-use Rattle.prelude.specs.declared.Verdict.{Verdict}
 use Rattle.overlap_checker.specs.declared.Entry.{Entry}
 use Rattle.overlap_checker.specs.Stored.{first_fault, Proper}
 use Rattle.overlap_checker.specs.Marks.{ProperMarks}
 use Rattle.overlap_checker.specs.Laws.MarkLaws.{resting, orderly, resting-proper, proper-resting}
-use Rattle.overlap_checker.specs.Lent.{Lent, held, held_marks, Sound, Calls}
+use Rattle.overlap_checker.specs.Lent.{Lent, held, held_marks, Sound}
 use Rattle.overlap_checker.specs.Theorems.Ascending.{faultless, ascending}
 use Rattle.overlap_checker.specs.Laws.Faults.{ascending-proper, first-splits, proper-ascending}
 

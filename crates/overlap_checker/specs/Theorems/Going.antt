@@ -9,11 +9,9 @@ use Rattle.overlap_checker.specs.declared.Entry.{Entry}
 use Rattle.overlap_checker.specs.Interval.{Within}
 use Rattle.overlap_checker.specs.Stored.{first_fault}
 use Rattle.overlap_checker.specs.Marks.{first_mark_fault}
-use Rattle.overlap_checker.specs.Laws.MarkLaws.{orderly}
 use Rattle.overlap_checker.specs.State.{answer, after}
 use Rattle.overlap_checker.specs.Lent.{Lent, zipped, state_in, Sound, laid_into, leaving}
 use Rattle.overlap_checker.specs.Lent.{Offers}
-use Rattle.overlap_checker.specs.Theorems.Ascending.{faultless}
 use Rattle.overlap_checker.specs.Theorems.Answers.{refused-keeps}
 use Rattle.overlap_checker.specs.Laws.Laid.{state-laid}
 use Rattle.overlap_checker.specs.Laws.Going.{fits_after, fits_in, laid-again, sound-laid}

@@ -9,7 +9,6 @@ use Rattle.overlap_checker.specs.State.{marked}
 use Rattle.overlap_checker.specs.Laws.Ascending.{told}
 use Rattle.overlap_checker.specs.Theorems.Bits.{inside-exactly}
 use Rattle.overlap_checker.specs.Laws.Rising.{count-le}
-use Rattle.overlap_checker.specs.Laws.MarkLaws.{low}
 
 -- the lowest lies past the offer's start exactly when some mark is strictly inside
 pub lowest-tells : (e : Entry) (ms : List ℕ) → crosses_any e ms ≡ ltb e.position (lowest_inside e ms)
