@@ -14,7 +14,7 @@ use Rattle.bankdef.specs.Theorems.Refused.{accepted}
 use Rattle.bankdef.specs.declared.Bankdefs.{Bankdefs}
 use Rattle.nodes.specs.FaultExactly.{other_bank}
 use Rattle.nodes.specs.Theorems.FaultExactly.{fault-exactly}
-use Rattle.nodes.specs.Lists.{Lists, lists, lists_of, first_of}
+use Rattle.nodes.specs.Lists.{Lists, lists_of, first_of}
 use Rattle.nodes.specs.Theorems.Sound.{accepted-lists, accepted-node}
 use Rattle.build_profile.specs.Kept.{Judged, keeps, breaks}
 use Rattle.build_profile.specs.Theorems.Kept.{judged}
