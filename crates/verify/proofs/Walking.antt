@@ -1,5 +1,5 @@
 -- The walk over the bytes: what it holds at byte b, one turn, and its end.
-use mathlib.Core.Path.{◌≡◌, refl, sym, ap, ◌∙◌, subst}
+use mathlib.Core.Path.{◌≡◌, refl, ap, ◌∙◌, subst}
 use mathlib.Core.Bool.{Bool}
 use mathlib.Core.List.{List, ◌++◌}
 use Prim.Native.Nat.{ℕ, suc, ◌+◌, ◌-◌, ◌≤◌, ◌<◌}
@@ -9,7 +9,6 @@ use native.Mathlib.Decide.{ℕ_discrete}
 use borrow.Author.Tests.{eq-eqb, ne_eqb}
 use lib.Dec.{eqb}
 use lib.ListN.{length}
-use Rattle.prelude.specs.Pick.{pick}
 use Rattle.verify.specs.Whole.{Sound}
 use Rattle.verify.specs.Runs.{Readback, Run, kind_by, kind_of, closed, closed_at, started_at, runs_from, runs_of}
 use Rattle.verify.specs.Put.{Cursor, Put}
