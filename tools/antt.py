@@ -11,7 +11,7 @@ MODIFIERS = ('pub', 'abbrev', 'unfoldable', 'axiom')
 PARTS = ('specs', 'specs/Theorems', 'specs/Laws', 'proofs')
 TOKEN = re.compile(r'«[^»]*»|[^\s(){}.;,@"«»]+|[(){}.;,@]')
 WORDS = set('data record deriving module where use mod pub package using open as unfoldable abbrev axiom unfold unfolding ruleset mutual infix infixl '
-            'infixr elim let in do λ ∀ Type 𝕀 → : = | ↦ × _ ⌜ ⌝ ← ≡ ensures requires now rw rw⁻¹ simp search cc omega absurd tt'.split())
+            'infixr elim let in do λ ∀ Type 𝕀 → : = | ↦ × _ ← ≡ ensures requires result rw rw⁻¹ simp search cc omega absurd tt'.split())
 
 
 REFUSED = 'docs/statements/refused.tsv'
@@ -32,6 +32,22 @@ def refused_at():
     """edit: the file and the declaration that the check refused it at (tools/refused)."""
     lines = (line.split('\t') for line in read(REFUSED).splitlines() if line[:1] != '#') if os.path.exists(os.path.join(ROOT, REFUSED)) else ()
     return {edit: (file, name) for edit, file, name in lines}
+
+
+def refused_by():
+    """The kit whose refusals are on record, from the first line."""
+    head = read(REFUSED).split('\n', 1)[0]
+    return head[2:] if head.startswith('# ') else ''
+
+
+LEFT = 'PORTING-LEFT.md'
+
+
+def is_left(crate):
+    """Whether a crate is not here and the page of those that are still to come names it."""
+    if os.path.isdir(os.path.join(ROOT, 'crates', crate)) or not os.path.isfile(os.path.join(ROOT, LEFT)):
+        return False
+    return bool(re.search(rf'(?<![\w/]){re.escape(crate)}(?!\w)', read(LEFT)))
 
 
 def bare(line):
@@ -237,7 +253,7 @@ class Uses:
                 self.modules[(here or there).strip().split('.')[-1]] = there.strip()
         if ghost:
             for crate, name in re.findall(r'^(?:pub )?use (\w+)::(\w+);', text, re.M):
-                self.names.setdefault(name, (f'Rattle·{crate}.specs.declared.{name}', name))
+                self.names.setdefault(name, (f'Rattle.{crate}.specs.declared.{name}', name))
 
 
 used = {}
@@ -276,8 +292,8 @@ def struct(crate, name):
 
 def module(path):
     """The file of a module of the repository; of a type declared in a crate's source (crate, name); of the library None."""
-    m = re.match(r'Rattle·([a-z_0-9]+)(?:·\w+)?\.(specs|proofs)\.(.*)$', path)
-    if not m:
+    m = re.match(r'Rattle\.([a-z_0-9]+)\.(specs|proofs)\.(.*)$', path)
+    if not m or not os.path.isdir(os.path.join(ROOT, 'crates', m.group(1))):
         return None
     crate, where, rest = m.groups()
     if rest.startswith('declared.'):
@@ -353,7 +369,7 @@ def mentioned(path, lines, own):
 
     def resolve(name):
         """The declarations that a name may mean, or the name of one of the library, in a list."""
-        for alias in (name, f'_{name}_', f'{name}_', f'_{name}'):
+        for alias in (name, f'◌{name}◌', f'{name}◌', f'◌{name}'):
             if alias in here and not here[alias].field:
                 return meant(here[alias], words)
             if alias in uses.names:

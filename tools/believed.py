@@ -63,7 +63,7 @@ def is_program(name):
 
 def promised(name):
     """What a program promises: the contracts of its own functions that `main` calls."""
-    body = read(f'crates/{name}/src/main.rt').partition('\nfn main() {')[2]
+    body = re.split(r'\nfn main\([^)]*\)[^{]*\{', read(f'crates/{name}/src/main.rt'), maxsplit=1)[-1]
     called = {t for t, _ in tokens(body.split('\n'))}
     return [contract(name, f) for f, (_, _, head) in functions_of(name).items() if f in called and any('ensures' in ln for ln in head)]
 
@@ -71,15 +71,15 @@ def promised(name):
 def said_by(name):
     """The sentences of crates/says that a program's contracts name, without the word that says where a text stands."""
     found = [uses_of(d.path).names.get(t) for d in promised(name) for t, _ in tokens(clause(d))]
-    return sorted({short(*u) for u in found if u and u[0].startswith('Rattle·says.') and u[1] != 'Shows'})
+    return sorted({short(*u) for u in found if u and u[0].startswith('Rattle.says.') and u[1] != 'Shows'})
 
 
 def sentence(name):
     """crate/File.name of the sentence that an exported call ensures, and the theorem that it leaves one outcome."""
     d = contract(EXPORTS, name)
-    m = re.search(r'⌜\s*(\w+)', '\n'.join(clause(d)))
+    m = re.search(r'\bensures(?: \w+)? \{\s*(\w+)', '\n'.join(clause(d)))
     said = uses_of(d.path).names.get(m.group(1)) if m else None
-    one = re.search(rf'^{name.replace("_", "-")}-unique .*?\b([a-z0-9-]+-decides?)\b', read(UNIQUE), re.M)
+    one = re.search(rf'^{name.replace("_", "[-_]")}[-_]unique .*?\b([a-z0-9_-]+[-_]decides?)\b', read(UNIQUE), re.M)
     if not said or not one:
         stop(f'{name}: what it ensures is no sentence, or {UNIQUE} has no line for it')
     return short(*said), short(*uses_of(UNIQUE).names[one.group(1)])
@@ -87,7 +87,7 @@ def sentence(name):
 
 def short(path, name):
     """crate/File.name of a name in a module of the repository."""
-    m = re.match(r'Rattle·([a-z_0-9]+)(?:·\w+)?\.(?:specs|proofs)\.(.*)$', path)
+    m = re.match(r'Rattle\.([a-z_0-9]+)\.(?:specs|proofs)\.(.*)$', path)
     return f'{m.group(1)}/{m.group(2).split(".")[-1]}.{name}'
 
 
@@ -210,7 +210,7 @@ def headlines():
     for file in ROWS:
         for text in re.findall(r'^  theorem: (.*(?:\n    .*)*)', read(file), re.M):
             m = re.search(r'`([a-z_0-9]+/[A-Z]\w*\.[^` ]+)`', text)
-            if m and not text.startswith('none') and not re.search(r'-meets?(-by)?$', m.group(1)) and not declared(m.group(1)).is_believed():
+            if m and not text.startswith('none') and not re.search(r'[-_]meets?([-_]by)?$', m.group(1)) and not declared(m.group(1)).is_believed():
                 found.append(m.group(1))
     return sorted(set(found))
 
@@ -222,7 +222,7 @@ def table():
            'unseen. `tools/believed NAME` prints the lines themselves in reading order, and docs/READING.md says how to read them.', '',
            '## Exported calls', '',
            'What a call ensures is its sentence, over its own parameters: its `ensures` and the sentence are believed. Sentences stand in crates/says and use '
-           'the types of answers, `bitAt` and the pieces of a text, and no other definition of the library.', '',
+           'the types of answers, `bit_at` and the pieces of a text, and no other definition of the library.', '',
            '| Call | Lines | of them its `ensures` | Declarations | Files | Sentence |', '|---|---|---|---|---|---|']
     for name in exports():
         lines, count, files, _ = figures(name)

@@ -29,7 +29,7 @@ import re
 import sys
 import textwrap
 import believed
-from antt import REFUSED, ROOT, edits, functions_of, line_of, names_of, places, read, refused_at, run
+from antt import REFUSED, ROOT, edits, functions_of, is_left, line_of, names_of, places, read, refused_at, refused_by, run
 
 PAGE = 'docs/STATEMENTS.md'
 ROWS = 'docs/statements'
@@ -45,7 +45,7 @@ KEYS = {
 CITED = re.compile(r'`([a-z_0-9]+)(/|::|!)([^` ]+)`')
 # a theorem that two outcomes are one: by its file, or by its name
 UNIQUE_FILE = re.compile(r'Unique$')
-UNIQUE_NAME = re.compile(r'(-unique|-ensures|-decides)$|^one-(outcome|writing|paged|write|read|way|offer|build|file-build|built-in)$')
+UNIQUE_NAME = re.compile(r'[-_](unique|ensures|decides)$|^one[-_](outcome|writing|paged|write|read|way|offer|build|file[-_]build|built[-_]in)$')
 # so many statements of a headline are quoted, of so many lines at most
 QUOTED = 2
 LONGEST = 40
@@ -59,7 +59,9 @@ def fault(text):
 
 
 def find(crate, rest, where):
-    """The declaration of crate/File.name, or None and a fault."""
+    """The declaration of crate/File.name, or None and a fault; none of a crate that is still to come."""
+    if is_left(crate):
+        return None
     file, _, name = rest.partition('.')
     for path in places(crate, file):
         if name in names_of(path):
@@ -104,7 +106,7 @@ def linked(text, where, up):
         if kind == '::' and rest in functions_of(crate):
             path = functions_of(crate)[rest][0]
             return f'[{m.group(0)}]({up}{path}#L{line_of(path, rest)})'
-        if kind == '!':
+        if kind == '!' and not is_left(crate):
             return f'[{m.group(0)}]({up}crates/{crate}/must-fail/{rest}.edit)'
         return m.group(0)
     return CITED.sub(link, text)
@@ -115,12 +117,14 @@ def with_digits(text, where, up):
     def one(m):
         crate, kind, rest = m.groups()
         named = linked(m.group(0), where, up)
+        if is_left(crate):
+            return f'{named} (to come)'
         return f'{named} {digest(crate, rest, where)}' if kind == '/' and re.match(r'[A-Z][A-Za-z0-9]*\.', rest) else named
     return CITED.sub(one, text)
 
 
 def is_there(kind, crate, rest, where):
-    if kind == '/' and not rest[:1].isupper():
+    if kind == '/' and not rest[:1].isupper() or is_left(crate):
         return
     if not os.path.isdir(os.path.join(ROOT, 'crates', crate)):
         fault(f'{where}: there is no crate {crate}: {crate}{kind}{rest}')
@@ -305,6 +309,8 @@ def write_row(b, up):
 def write_function(b, up):
     """A line of the table of functions."""
     crate, _, name = b.name.partition('::')
+    if is_left(crate):
+        return [f'| `{b.name}` | {cell(b["not"])} | to come | {cell(b["one"])} |']
     path, _, head = functions_of(crate).get(name, ('', False, []))
     if not path:
         return [f'| `{b.name}` | there is no such function | | |']
@@ -362,6 +368,9 @@ def turned_away(b, up):
     """Where the check refuses an edit: a link to the file, and the declaration in it."""
     file, name = refused_at().get(b.name, ('', ''))
     path = f'crates/{b.name.split("!")[0]}/{file}'
+    if b['changes'] and file and (is_left(b.name.split('!')[0]) or refused_by() != read('KIT').strip() and not os.path.exists(os.path.join(ROOT, path))):
+        # a proof of then, which is not here
+        return f'{file}, `{name}`'
     if not b['changes'] or not file or not os.path.exists(os.path.join(ROOT, path)):
         fault(f'{b.where}: {b.name} has not both what it changes and, in {REFUSED}, a file that is there (tools/refused --write)')
     return f'[{file}]({up}{path})' + (f', `{name}`' if name else '')
@@ -403,13 +412,16 @@ def all_named(seen):
         if c not in changed:
             fault(f'no row says what stops a change of definition and code together in {c}')
     for c in changed:
-        if c not in crates:
+        if c not in crates and not is_left(c):
             fault(f'together {c}: there is no such crate')
     for edit in sorted(refused_at().keys() - set(edits())):
+        if is_left(edit.split('!')[0]):
+            continue
         fault(f'{REFUSED}: there is no edit {edit}')
     named = {n for k, n in seen.blocks if k == 'row'}
     for pattern in ('antt', 'edit'):
-        for path in sorted(glob.glob(os.path.join(ROOT, f'crates/**/*.{pattern}'), recursive=True)):
+        for path in every_file(f'crates/*/*/**/*.{pattern}'):
+            path = os.path.join(ROOT, path)
             for n in re.findall(r'\[row ([a-z0-9-]+)\]', open(path, encoding='utf-8').read()):
                 if n not in named:
                     fault(f'{os.path.relpath(path, ROOT)} cites a row that is not on the pages: {n}')
@@ -496,13 +508,16 @@ LAWS = re.compile(r'^\| `([a-z_0-9]+)/([A-Z]\w*)` \| (`[^|]*`) \|')
 
 
 def every_file(*patterns):
-    return sorted(os.path.relpath(p, ROOT) for pattern in patterns for p in glob.glob(os.path.join(ROOT, pattern), recursive=True))
+    found = (os.path.relpath(p, ROOT) for pattern in patterns for p in glob.glob(os.path.join(ROOT, pattern), recursive=True))
+    return sorted(p for p in found if not re.match(r'crates/\w+/out/', p))
 
 
 def check_path(path, where):
     path = path.rstrip('.')
     if re.search(r'(^|/)[A-Z]{2,}(/|\.edit|$)', path) and not os.path.exists(os.path.join(ROOT, path)):
         return  # a placeholder: crates/NAME/must-fail/LABEL.edit
+    if path.startswith('crates/') and is_left(path.split('/')[1]):
+        return
     if not glob.glob(os.path.join(ROOT, path)) and not glob.glob(os.path.join(ROOT, path + '.antt')):
         fault(f'{where}: there is no {path}')
 
@@ -540,13 +555,13 @@ def check_header():
 
 
 def check_comments():
-    """Comments of the crates and of the edits: paths and names that they cite, and no line of the crates too long."""
+    """Comments of the crates and of the edits: paths and names that they cite, and none too long; the rest is as rt fmt lays it."""
     for here in every_file('crates/**/*.antt', 'crates/**/*.rt'):
         for n, line in enumerate(read(here).split('\n'), 1):
-            if len(line) > 160:
-                fault(f'{here}:{n}: longer than 160 characters')
             mark = '--' if here.endswith('.antt') else '//'
             if mark in line:
+                if len(line) > 160 and line.strip().startswith(mark):
+                    fault(f'{here}:{n}: longer than 160 characters')
                 check_comment(line.split(mark, 1)[1], f'{here}:{n}')
 
 
