@@ -8,7 +8,7 @@ use Rattle.record_lines.specs.Laws.Puts.{puts-rest, puts-long}
 use Rattle.record_write.specs.Cut.{piece_length, cut_in, cut}
 use Rattle.record_write.specs.Theorems.Cut.{cut-first}
 use Rattle.record_write.specs.Text.{text_by, lines_from, state_from}
-use Rattle.record_write.specs.Going.{Writing, Adds, BlockWritten}
+use Rattle.record_write.specs.Going.{Writing, BlockWritten}
 
 drop-take : (n m : ℕ) (l : List ℕ) → drop n (take m l) ≡ take (m - n) (drop n l)
 drop-take zero m l = ap (λ (k : ℕ). take k l) {x = m} {y = m - 0} (omega arith)

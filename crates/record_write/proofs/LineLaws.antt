@@ -1,5 +1,5 @@
 -- A line put together from its stores, in a format.
-use Rattle.std.proofs.Common.{◌≡◌, ℕ, suc, ◌+◌, ◌-◌, ◌*◌, ◌/◌, ◌%◌, ◌^◌, ◌<◌, ◌≤◌, Bool, true, false, eqb, List, [], ◌∷◌, ◌++◌, length, take, drop, set, sym, refl, ap, ◌∙◌, subst, ap₂, append_assoc, add-one, arith, length-append, length-drop, length-set, length-take, take_all, eq-eqb, ne_eqb, eqb-true}
+use Rattle.std.proofs.Common.{◌≡◌, ℕ, ◌+◌, ◌-◌, ◌*◌, ◌/◌, ◌%◌, ◌<◌, ◌≤◌, eqb, List, [], ◌∷◌, ◌++◌, length, take, drop, set, sym, refl, ap, ◌∙◌, ap₂, append_assoc, add-one, arith, length-append, length-drop, length-set, length-take, take_all, eq-eqb, ne_eqb, eqb-true}
 use borrow.Author.Tests.{eqb-false}
 use lib.Seq.{sets}
 use Rattle.prelude.specs.Laws.Bools.{either}
@@ -9,7 +9,6 @@ use Rattle.record_lines.specs.Pieces.{piece}
 use Rattle.record_lines.specs.Puts.{Puts}
 use Rattle.record_lines.specs.Laws.Puts.{sets_then}
 use Rattle.record_lines.specs.Sums.{sum_of}
-use Rattle.record_lines.specs.Laws.Sums.{sum-append}
 use Rattle.record_ihex_line.specs.Format.{check_of, record_text, upper_text, hex_text, end_text}
 use Rattle.record_ihex_line.specs.Laws.Writes.{check-byte, record-put}
 use Rattle.record_srec_line.specs.Srec.{head_of, body_of, checksum_of, line_text, ended_line, address_bytes}

@@ -1,5 +1,5 @@
 -- What a call owes, by what its tests say.
-use Rattle.std.proofs.Common.{◌≡◌, ℕ, ◌+◌, ◌<◌, ◌≤◌, true, false, ◌&&◌, eqb, List, ◌++◌, length, take, drop, sym, refl, ap, ◌∙◌, arith, eqb-true, le-leb}
+use Rattle.std.proofs.Common.{◌≡◌, ℕ, ◌+◌, ◌<◌, ◌≤◌, true, false, ◌&&◌, eqb, List, ◌++◌, length, drop, ap, ◌∙◌, arith, eqb-true, le-leb}
 use mathlib.Core.Bool.{and-eq-true_iff}
 use borrow.Author.Tests.{lt-leb}
 use lib.Seq.{sets, sets-eq}

@@ -2,7 +2,7 @@
 use Rattle.std.specs.Prelude.{◌≡◌, ℕ, ◌+◌, ◌-◌, ◌/◌, ◌%◌, ◌<◌, min, true, List, length, take, drop}
 use mathlib.Core.List.{Memᴰ}
 use Rattle.blocks.specs.declared.Block.{Block}
-use Rattle.record_lines.specs.Pieces.{Piece, piece}
+use Rattle.record_lines.specs.Pieces.{Piece}
 use Rattle.record_ihex_line.specs.Format.{good_line}
 use Rattle.record_srec_line.specs.Srec.{is_sound}
 use Rattle.record_write.specs.Cut.{bytes_in}

@@ -4,7 +4,7 @@ use mathlib.Core.List.Memᴰ
 use mathlib.Core.List.{Memᴰ}
 use Rattle.std.proofs.Common.{⊎_elim}
 use Rattle.blocks.specs.declared.Block.{Block}
-use Rattle.record_lines.specs.Pieces.{Piece, piece}
+use Rattle.record_lines.specs.Pieces.{Piece}
 use Rattle.record_write.specs.Cut.{cut, bytes_in, pieces_of}
 use Rattle.record_write.specs.Laws.Shape.{cut-in-pieces}
 use Rattle.record_write.specs.Shape.{BlockPiece}
