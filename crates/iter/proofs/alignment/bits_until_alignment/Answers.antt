@@ -25,21 +25,21 @@ pub returns-then-alignment-eq0-clause-value : goal.returns-then-alignment-eq0-cl
 returns-then-alignment-eq0-clause-value c =
     -- past the first test
     let tells : tellable c.args.def ≡ true =
-        sym c.is_tellable.ensures ∙ not-false _ c.if-not-is_tellable.false-raw in
+    sym c.is_tellable.ensures ∙ not-false _ c.if-not-is_tellable.false-raw in
     (distance-answers _ _ _ _ (sym (to_none _ _ _ _ (tells) c.if-alignment-eq0.true))).0
 
 pub returns-then-alignment-eq0-clause-told : goal.returns-then-alignment-eq0-clause-told
 returns-then-alignment-eq0-clause-told c =
     -- past the first test
     let tells : tellable c.args.def ≡ true =
-        sym c.is_tellable.ensures ∙ not-false _ c.if-not-is_tellable.false-raw in
+    sym c.is_tellable.ensures ∙ not-false _ c.if-not-is_tellable.false-raw in
     (distance-answers _ _ _ _ (sym (to_none _ _ _ _ (tells) c.if-alignment-eq0.true))).1
 
 pub returns-clause-value : goal.returns-clause-value
 returns-clause-value c =
     -- past the first test
     let tells : tellable c.args.def ≡ true =
-        sym c.is_tellable.ensures ∙ not-false _ c.if-not-is_tellable.false-raw in
+    sym c.is_tellable.ensures ∙ not-false _ c.if-not-is_tellable.false-raw in
     (let a = c.args in
     let r : c.remainder_by-r.result ≡ remainder (address_in_bits a.def a.position) a.alignment =
     c.remainder_by-r.ensures.0 ∙ ap (λ (b : InBits). remainder_of b a.alignment) c.address_in_bits.ensures
@@ -53,7 +53,7 @@ pub returns-clause-told : goal.returns-clause-told
 returns-clause-told c =
     -- past the first test
     let tells : tellable c.args.def ≡ true =
-        sym c.is_tellable.ensures ∙ not-false _ c.if-not-is_tellable.false-raw in
+    sym c.is_tellable.ensures ∙ not-false _ c.if-not-is_tellable.false-raw in
     (let a = c.args in
     let r : c.remainder_by-r.result ≡ remainder (address_in_bits a.def a.position) a.alignment =
     c.remainder_by-r.ensures.0 ∙ ap (λ (b : InBits). remainder_of b a.alignment) c.address_in_bits.ensures

@@ -14,6 +14,6 @@ pub returns : goal.returns
 returns c =
     -- past the test
     let tells : tellable c.args.def ≡ true =
-        sym c.is_tellable.ensures ∙ not-false _ c.if-not-is_tellable.false-raw in
+    sym c.is_tellable.ensures ∙ not-false _ c.if-not-is_tellable.false-raw in
     paces-align _ _ _ c.requires.node_value c.requires.kind_value c.distance_in_bits-bits.result (tells) c.distance_in_bits-bits.ensures c.in_units.ensures
     (rw c.stays_known.ensures at c.added.ensures)

@@ -15,21 +15,21 @@ pub returns-in-Stays : goal.returns-in-Stays
 returns-in-Stays c =
     -- past the test of the state
     let sound : bad_state c.args.node ≡ false =
-        sym c.is_bad_state.ensures ∙ c.if-is_bad_state.false in
+    sym c.is_bad_state.ensures ∙ c.if-is_bad_state.false in
     paces-stay _ _ _ (sound) (stay-told (numbers _ c.does.ensures c.in-Stays.is)) c.stood.ensures
 
 pub returns-in-Switches : goal.returns-in-Switches
 returns-in-Switches c =
     -- past the test of the state
     let sound : bad_state c.args.node ≡ false =
-        sym c.is_bad_state.ensures ∙ c.if-is_bad_state.false in
+    sym c.is_bad_state.ensures ∙ c.if-is_bad_state.false in
     paces-switch _ _ _ (sound) (switch-told (numbers _ c.does.ensures c.in-Switches.is)) c.stood-in-Switches.ensures
 
 pub returns-in-Adds : goal.returns-in-Adds
 returns-in-Adds c =
     -- past the test of the state
     let sound : bad_state c.args.node ≡ false =
-        sym c.is_bad_state.ensures ∙ c.if-is_bad_state.false in
+    sym c.is_bad_state.ensures ∙ c.if-is_bad_state.false in
     let n = add-told (numbers _ c.does.ensures c.in-Adds.is) in
     paces-item _ _ _ (sound) n.0 n.1 (rw c.stays_known.ensures at c.added.ensures)
 
@@ -37,12 +37,12 @@ pub returns-in-Sets : goal.returns-in-Sets
 returns-in-Sets c =
     -- past the test of the state
     let sound : bad_state c.args.node ≡ false =
-        sym c.is_bad_state.ensures ∙ c.if-is_bad_state.false in
+    sym c.is_bad_state.ensures ∙ c.if-is_bad_state.false in
     paces-addr _ _ _ (sound) (set_told (numbers _ c.does.ensures c.in-Sets.is)) c.made.ensures
 
 pub returns-in-Unknown : goal.returns-in-Unknown
 returns-in-Unknown c =
     -- past the test of the state
     let sound : bad_state c.args.node ≡ false =
-        sym c.is_bad_state.ensures ∙ c.if-is_bad_state.false in
+    sym c.is_bad_state.ensures ∙ c.if-is_bad_state.false in
     paces-other _ _ _ (sound) (other-told (numbers _ c.does.ensures c.in-Unknown.is)) c.halted-in-Unknown.ensures

@@ -12,33 +12,33 @@ use Rattle.iter.proofs.paces.pace_symbol.Goals as goal
 pub returns-then-node-ne0 : goal.returns-then-node-ne0
 returns-then-node-ne0 c =
     let few : c.args.node.kind < 4 =
-        omega (arith, c.requires.le_kind.1) in
+    omega (arith, c.requires.le_kind.1) in
     paces-plain _ _ _ c.requires.node_value (deeper c.args.node c.if-node-ne0.true) (few) c.stood.ensures
 
 pub returns-then-not-is_tellable : goal.returns-then-not-is_tellable
 returns-then-not-is_tellable c =
     let few : c.args.node.kind < 4 =
-        omega (arith, c.requires.le_kind.1) in
+    omega (arith, c.requires.le_kind.1) in
     -- past the first test, and past the second
     let symbol : outermost_symbol c.args.node ≡ true =
-        outermost c.args.node c.requires.le_kind c.if-node-ne0.false in
+    outermost c.args.node c.requires.le_kind c.if-node-ne0.false in
     paces-symbol-untold _ _ _ c.requires.node_value _ (symbol) c.in-Some.is (few) (sym c.is_tellable.ensures ∙ not-true _ c.if-not-is_tellable.true-raw)
     c.halted.ensures
 
 pub returns-in-None : goal.returns-in-None
 returns-in-None c =
     let few : c.args.node.kind < 4 =
-        omega (arith, c.requires.le_kind.1) in
+    omega (arith, c.requires.le_kind.1) in
     paces-unaligned _ _ _ c.requires.node_value c.in-None.is (few) c.stood-in-None.ensures
 
 pub returns-else-not-is_tellable : goal.returns-else-not-is_tellable
 returns-else-not-is_tellable c =
     let few : c.args.node.kind < 4 =
-        omega (arith, c.requires.le_kind.1) in
+    omega (arith, c.requires.le_kind.1) in
     -- past the first test, and past the second
     let symbol : outermost_symbol c.args.node ≡ true =
-        outermost c.args.node c.requires.le_kind c.if-node-ne0.false in
+    outermost c.args.node c.requires.le_kind c.if-node-ne0.false in
     let tells : tellable c.args.def ≡ true =
-        sym c.is_tellable.ensures ∙ not-false _ c.if-not-is_tellable.false-raw in
+    sym c.is_tellable.ensures ∙ not-false _ c.if-not-is_tellable.false-raw in
     paces-symbol _ _ _ c.requires.node_value _ (symbol) c.in-Some.is (few) c.distance_in_bits.result (tells) c.distance_in_bits.ensures
     c.in_units.ensures c.aligned_first.ensures

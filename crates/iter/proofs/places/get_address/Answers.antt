@@ -17,42 +17,42 @@ use Rattle.iter.proofs.places.get_address.Goals as goal
 pub returns-then-is_tellable-clause-value : goal.returns-then-is_tellable-clause-value
 returns-then-is_tellable-clause-value c =
     let tells : tellable c.args.def ≡ true =
-        sym c.is_tellable.ensures ∙ c.if-is_tellable.true in
+    sym c.is_tellable.ensures ∙ c.if-is_tellable.true in
     let few : c.args.position / c.args.def.unit < 2 ^ 32 =
-        let a = c.args in
+    let a = c.args in
     let h : a.position < 2 ^ 32 = search rules in
     lt_of_le_of_lt (div-le_self a.position a.def.unit) h in
     -- start and units are read back from their bits
     let read : let a = c.args in
     to_z w64 (of_z w64 a.def.start) +ℤ to_z w64 (a.position / a.def.unit) ≡ a.def.start +ℤ pos (a.position / a.def.unit) =
-        let a = c.args in
+    let a = c.args in
     let h : SFits w64 a.def.start = search rules in
     let k : a.position / a.def.unit < 2 ^ hbits w64 = omega (arith, few) in
     rw (to_z-of_z h, to_z_pos w64 k) in
     let fits : let a = c.args in
     SFits w64 (a.def.start +ℤ pos (a.position / a.def.unit)) =
-        let a = c.args in
+    let a = c.args in
     sum_fits a.def.start (a.position / a.def.unit) (start-within a.def (tells)) (few) in
     rw (read, to_z-of_z (fits)) (address-answers _ _ _ (sym (address-when _ _ _ (tells)))).0
 
 pub returns-then-is_tellable-clause-told : goal.returns-then-is_tellable-clause-told
 returns-then-is_tellable-clause-told c =
     let tells : tellable c.args.def ≡ true =
-        sym c.is_tellable.ensures ∙ c.if-is_tellable.true in
+    sym c.is_tellable.ensures ∙ c.if-is_tellable.true in
     let few : c.args.position / c.args.def.unit < 2 ^ 32 =
-        let a = c.args in
+    let a = c.args in
     let h : a.position < 2 ^ 32 = search rules in
     lt_of_le_of_lt (div-le_self a.position a.def.unit) h in
     -- start and units are read back from their bits
     let read : let a = c.args in
     to_z w64 (of_z w64 a.def.start) +ℤ to_z w64 (a.position / a.def.unit) ≡ a.def.start +ℤ pos (a.position / a.def.unit) =
-        let a = c.args in
+    let a = c.args in
     let h : SFits w64 a.def.start = search rules in
     let k : a.position / a.def.unit < 2 ^ hbits w64 = omega (arith, few) in
     rw (to_z-of_z h, to_z_pos w64 k) in
     let fits : let a = c.args in
     SFits w64 (a.def.start +ℤ pos (a.position / a.def.unit)) =
-        let a = c.args in
+    let a = c.args in
     sum_fits a.def.start (a.position / a.def.unit) (start-within a.def (tells)) (few) in
     rw (read, to_z-of_z (fits)) (address-answers _ _ _ (sym (address-when _ _ _ (tells)))).1
 

@@ -22,11 +22,11 @@ pub loop-i-init : goal.loop-i-init
 loop-i-init c =
     -- what the pass is given
     let given : Program =
-        program_with c.args.banks c.args.kinds.now c.args.operands.now c.args.first.now in
+    program_with c.args.banks c.args.kinds.now c.args.operands.now c.args.first.now in
     let row : Row =
-        row_with c.args.numbers.now c.args.states.now in
+    row_with c.args.numbers.now c.args.states.now in
     let row_before : Row =
-        row_with c.args.before_numbers.now c.args.before_states.now in
+    row_with c.args.before_numbers.now c.args.before_states.now in
     let at-start = both-stand (given) c.requires.switches (row) (row_before) c.requires.begun_value in (
       refl,
       search rules,
@@ -39,82 +39,82 @@ pub returns-then-step-ne-MADE-clause-pass : goal.returns-then-step-ne-MADE-claus
 returns-then-step-ne-MADE-clause-pass c =
     -- what the pass is given
     let given : Program =
-        program_with c.args.banks c.args.kinds.now c.args.operands.now c.args.first.now in
+    program_with c.args.banks c.args.kinds.now c.args.operands.now c.args.first.now in
     let row : Row =
-        row_with c.args.numbers.now c.args.states.now in
+    row_with c.args.numbers.now c.args.states.now in
     let row_before : Row =
-        row_with c.args.before_numbers.now c.args.before_states.now in
+    row_with c.args.before_numbers.now c.args.before_states.now in
     -- owning a table tells that it has 16 records
     let room : length c.args.banks.defs ≡ 16 =
-        c.well_formed.0.1.1.0.1.0.1 in
+    c.well_formed.0.1.1.0.1.0.1 in
     -- the bank that node i stands in, whatever the row
     let there : c.bank_after-bank.result ≡ bank_after c.loop-i.bank (node (given) (row) c.loop-i.i) =
-        stands-in (given) c.requires.switches (row) c.loop-i.i c.loop-i.bank c.node_at-node.ensures c.bank_after-bank.ensures in
+    stands-in (given) c.requires.switches (row) c.loop-i.i c.loop-i.bank c.node_at-node.ensures c.bank_after-bank.ensures in
     -- there is one more node
     let more : c.loop-i.i < length c.args.kinds.now =
-        omega (arith, c.loop-i-test.true, c.loop-i.invariant.0) in
+    omega (arith, c.loop-i-test.true, c.loop-i.invariant.0) in
     -- what node i sees
     let seen-is : (let i = c.loop-i.i in
     seen_by c.pace-step.result c.node_at-node.result.index ≡ (step_at (given) (row) (walk_to (given) (row) i) i).seen) =
-        let l = c.loop-i in
+    let l = c.loop-i in
     sees (given) c.requires.switches (room) (row) l.i l.invariant.3 (there) _ _ no_bank c.node_at-node.ensures c.pace-step.ensures.1 refl in
     let l = c.loop-i in c.refused_pass.ensures
-          ∙ ap (λ (x : Refusal). Refused x) c.why_refused.ensures
-          ∙ pass-halts (given) (row) (row_before) c.args.is_first c.args.is_last l.i l.invariant.2 (seen-is)
-          (pick-false _ _ (ne_eqb c.pace-step.result.fault 0 c.if-step-ne-MADE.true)) (more)
+    ∙ ap (λ (x : Refusal). Refused x) c.why_refused.ensures
+    ∙ pass-halts (given) (row) (row_before) c.args.is_first c.args.is_last l.i l.invariant.2 (seen-is)
+    (pick-false _ _ (ne_eqb c.pace-step.result.fault 0 c.if-step-ne-MADE.true)) (more)
 
 pub returns-then-off_boundary-clause-pass : goal.returns-then-off_boundary-clause-pass
 returns-then-off_boundary-clause-pass c =
     -- what the pass is given
     let given : Program =
-        program_with c.args.banks c.args.kinds.now c.args.operands.now c.args.first.now in
+    program_with c.args.banks c.args.kinds.now c.args.operands.now c.args.first.now in
     let row : Row =
-        row_with c.args.numbers.now c.args.states.now in
+    row_with c.args.numbers.now c.args.states.now in
     let row_before : Row =
-        row_with c.args.before_numbers.now c.args.before_states.now in
+    row_with c.args.before_numbers.now c.args.before_states.now in
     -- owning a table tells that it has 16 records
     let room : length c.args.banks.defs ≡ 16 =
-        c.well_formed.0.1.1.0.1.0.1 in
+    c.well_formed.0.1.1.0.1.0.1 in
     -- the bank that node i stands in, whatever the row
     let there : c.bank_after-bank.result ≡ bank_after c.loop-i.bank (node (given) (row) c.loop-i.i) =
-        stands-in (given) c.requires.switches (row) c.loop-i.i c.loop-i.bank c.node_at-node.ensures c.bank_after-bank.ensures in
+    stands-in (given) c.requires.switches (row) c.loop-i.i c.loop-i.bank c.node_at-node.ensures c.bank_after-bank.ensures in
     -- there is one more node
     let more : c.loop-i.i < length c.args.kinds.now =
-        omega (arith, c.loop-i-test.true, c.loop-i.invariant.0) in
+    omega (arith, c.loop-i-test.true, c.loop-i.invariant.0) in
     -- what node i sees
     let seen-is : (let i = c.loop-i.i in
     seen_by c.pace-step.result c.node_at-node.result.index ≡ (step_at (given) (row) (walk_to (given) (row) i) i).seen) =
-        let l = c.loop-i in
+    let l = c.loop-i in
     sees (given) c.requires.switches (room) (row) l.i l.invariant.3 (there) _ _ no_bank c.node_at-node.ensures c.pace-step.ensures.1 refl in
     let l = c.loop-i in c.refused_pass-then-off_boundary.ensures
-          ∙ pass-refused (given) (row) (row_before) c.args.is_first c.args.is_last l.i (walk_to (given) (row) (l.i + 1))
-          (pass_meets (given) (row) (row_before) c.args.is_first c.args.is_last l.i l.invariant.2 c.node_at-node.ensures
-          (record_is (given) c.requires.switches (room) (row) l.i l.invariant.3 (there) no_bank refl)
-          (seen-is) refl
-          (met-off (get_or c.args.banks.defs c.bank_after-bank.result no_bank) c.node_at-node.result
-          (step_at (given) (row_before) (walk_to (given) (row_before) l.i) l.i).seen c.args.is_first c.args.is_last l.merged (pick_true _ _ (eq-eqb c.pace-step.result.fault 0 c.if-step-ne-MADE.false)) c.off_boundary.ensures c.if-off_boundary.true))
-          refl (more)
+    ∙ pass-refused (given) (row) (row_before) c.args.is_first c.args.is_last l.i (walk_to (given) (row) (l.i + 1))
+    (pass_meets (given) (row) (row_before) c.args.is_first c.args.is_last l.i l.invariant.2 c.node_at-node.ensures
+    (record_is (given) c.requires.switches (room) (row) l.i l.invariant.3 (there) no_bank refl)
+    (seen-is) refl
+    (met-off (get_or c.args.banks.defs c.bank_after-bank.result no_bank) c.node_at-node.result
+    (step_at (given) (row_before) (walk_to (given) (row_before) l.i) l.i).seen c.args.is_first c.args.is_last l.merged (pick_true _ _ (eq-eqb c.pace-step.result.fault 0 c.if-step-ne-MADE.false)) c.off_boundary.ensures c.if-off_boundary.true))
+    refl (more)
 
 -- held against its own row: what the pass before sees is what this one sees
 pub loop-i-preserved-then-alone : goal.loop-i-preserved-then-alone
 loop-i-preserved-then-alone c =
     -- what the pass is given
     let given : Program =
-        program_with c.args.banks c.args.kinds.now c.args.operands.now c.args.first.now in
+    program_with c.args.banks c.args.kinds.now c.args.operands.now c.args.first.now in
     let row : Row =
-        row_with c.args.numbers.now c.args.states.now in
+    row_with c.args.numbers.now c.args.states.now in
     let row_before : Row =
-        row_with c.args.before_numbers.now c.args.before_states.now in
+    row_with c.args.before_numbers.now c.args.before_states.now in
     -- owning a table tells that it has 16 records
     let room : length c.args.banks.defs ≡ 16 =
-        c.well_formed.0.1.1.0.1.0.1 in
+    c.well_formed.0.1.1.0.1.0.1 in
     -- the bank that node i stands in, whatever the row
     let there : c.bank_after-bank.result ≡ bank_after c.loop-i.bank (node (given) (row) c.loop-i.i) =
-        stands-in (given) c.requires.switches (row) c.loop-i.i c.loop-i.bank c.node_at-node.ensures c.bank_after-bank.ensures in
+    stands-in (given) c.requires.switches (row) c.loop-i.i c.loop-i.bank c.node_at-node.ensures c.bank_after-bank.ensures in
     -- what node i sees
     let seen-is : (let i = c.loop-i.i in
     seen_by c.pace-step.result c.node_at-node.result.index ≡ (step_at (given) (row) (walk_to (given) (row) i) i).seen) =
-        let l = c.loop-i in
+    let l = c.loop-i in
     sees (given) c.requires.switches (room) (row) l.i l.invariant.3 (there) _ _ no_bank c.node_at-node.ensures c.pace-step.ensures.1 refl in
     let l = c.loop-i in
     let i = l.i in
@@ -141,21 +141,21 @@ pub loop-i-preserved : goal.loop-i-preserved
 loop-i-preserved c =
     -- what the pass is given
     let given : Program =
-        program_with c.args.banks c.args.kinds.now c.args.operands.now c.args.first.now in
+    program_with c.args.banks c.args.kinds.now c.args.operands.now c.args.first.now in
     let row : Row =
-        row_with c.args.numbers.now c.args.states.now in
+    row_with c.args.numbers.now c.args.states.now in
     let row_before : Row =
-        row_with c.args.before_numbers.now c.args.before_states.now in
+    row_with c.args.before_numbers.now c.args.before_states.now in
     -- owning a table tells that it has 16 records
     let room : length c.args.banks.defs ≡ 16 =
-        c.well_formed.0.1.1.0.1.0.1 in
+    c.well_formed.0.1.1.0.1.0.1 in
     -- the bank that node i stands in, whatever the row
     let there : c.bank_after-bank.result ≡ bank_after c.loop-i.bank (node (given) (row) c.loop-i.i) =
-        stands-in (given) c.requires.switches (row) c.loop-i.i c.loop-i.bank c.node_at-node.ensures c.bank_after-bank.ensures in
+    stands-in (given) c.requires.switches (row) c.loop-i.i c.loop-i.bank c.node_at-node.ensures c.bank_after-bank.ensures in
     -- what node i sees
     let seen-is : (let i = c.loop-i.i in
     seen_by c.pace-step.result c.node_at-node.result.index ≡ (step_at (given) (row) (walk_to (given) (row) i) i).seen) =
-        let l = c.loop-i in
+    let l = c.loop-i in
     sees (given) c.requires.switches (room) (row) l.i l.invariant.3 (there) _ _ no_bank c.node_at-node.ensures c.pace-step.ensures.1 refl in
     let l = c.loop-i in
     let i = l.i in

@@ -9,7 +9,7 @@ use Rattle.resolver.proofs.passes.resolve.Goals as goal
 pub resolve_iteratively-requires : goal.resolve_iteratively-requires
 resolve_iteratively-requires c =
     let given : Lists =
-        lists c.args.kinds.now c.args.operands.now c.args.numbers.now c.args.states.now c.args.rows c.args.values.now in
+    lists c.args.kinds.now c.args.operands.now c.args.numbers.now c.args.states.now c.args.rows c.args.values.now in
     let a = c.args in
     let l = c.check_lists.ensures.value in
     let t = c.check.ensures.value in
@@ -24,21 +24,21 @@ resolve_iteratively-requires c =
 pub returns-in-Refused-clause-value : goal.returns-in-Refused-clause-value
 returns-in-Refused-clause-value c =
     let given : Lists =
-        lists c.args.kinds.now c.args.operands.now c.args.numbers.now c.args.states.now c.args.rows c.args.values.now in
+    lists c.args.kinds.now c.args.operands.now c.args.numbers.now c.args.states.now c.args.rows c.args.values.now in
     (layout-told c.args.banks (given) c.args.choices (banks-refused c.args.banks (given) c.args.choices
     c.check.ensures.value c.in-Refused.is c.turned_away.ensures)).0
 
 pub returns-in-Refused-clause-told : goal.returns-in-Refused-clause-told
 returns-in-Refused-clause-told c =
     let given : Lists =
-        lists c.args.kinds.now c.args.operands.now c.args.numbers.now c.args.states.now c.args.rows c.args.values.now in
+    lists c.args.kinds.now c.args.operands.now c.args.numbers.now c.args.states.now c.args.rows c.args.values.now in
     (layout-told c.args.banks (given) c.args.choices (banks-refused c.args.banks (given) c.args.choices
     c.check.ensures.value c.in-Refused.is c.turned_away.ensures)).1
 
 pub returns-in-Refused-check_lists-clause-value : goal.returns-in-Refused-check_lists-clause-value
 returns-in-Refused-check_lists-clause-value c =
     let given : Lists =
-        lists c.args.kinds.now c.args.operands.now c.args.numbers.now c.args.states.now c.args.rows c.args.values.now in
+    lists c.args.kinds.now c.args.operands.now c.args.numbers.now c.args.states.now c.args.rows c.args.values.now in
     (layout-told c.args.banks (given) c.args.choices (lists-refused c.args.banks (given) c.args.choices
     c.check.ensures.value c.in-Accepted.is
     c.check_lists.ensures.value c.in-Refused-check_lists.is c.turned_away-in-Refused-check_lists.ensures)).0
@@ -46,7 +46,7 @@ returns-in-Refused-check_lists-clause-value c =
 pub returns-in-Refused-check_lists-clause-told : goal.returns-in-Refused-check_lists-clause-told
 returns-in-Refused-check_lists-clause-told c =
     let given : Lists =
-        lists c.args.kinds.now c.args.operands.now c.args.numbers.now c.args.states.now c.args.rows c.args.values.now in
+    lists c.args.kinds.now c.args.operands.now c.args.numbers.now c.args.states.now c.args.rows c.args.values.now in
     (layout-told c.args.banks (given) c.args.choices (lists-refused c.args.banks (given) c.args.choices
     c.check.ensures.value c.in-Accepted.is
     c.check_lists.ensures.value c.in-Refused-check_lists.is c.turned_away-in-Refused-check_lists.ensures)).1
@@ -54,7 +54,7 @@ returns-in-Refused-check_lists-clause-told c =
 pub returns-in-Accepted-check_lists-clause-value : goal.returns-in-Accepted-check_lists-clause-value
 returns-in-Accepted-check_lists-clause-value c =
     let given : Lists =
-        lists c.args.kinds.now c.args.operands.now c.args.numbers.now c.args.states.now c.args.rows c.args.values.now in
+    lists c.args.kinds.now c.args.operands.now c.args.numbers.now c.args.states.now c.args.rows c.args.values.now in
     (layout-told c.args.banks (given) c.args.choices (both-accepted c.args.banks (given) c.args.choices
     c.check.ensures.value c.in-Accepted.is
     c.check_lists.ensures.value c.in-Accepted-check_lists.is c.resolve_iteratively.ensures)).0
@@ -62,7 +62,7 @@ returns-in-Accepted-check_lists-clause-value c =
 pub returns-in-Accepted-check_lists-clause-told : goal.returns-in-Accepted-check_lists-clause-told
 returns-in-Accepted-check_lists-clause-told c =
     let given : Lists =
-        lists c.args.kinds.now c.args.operands.now c.args.numbers.now c.args.states.now c.args.rows c.args.values.now in
+    lists c.args.kinds.now c.args.operands.now c.args.numbers.now c.args.states.now c.args.rows c.args.values.now in
     (layout-told c.args.banks (given) c.args.choices (both-accepted c.args.banks (given) c.args.choices
     c.check.ensures.value c.in-Accepted.is
     c.check_lists.ensures.value c.in-Accepted-check_lists.is c.resolve_iteratively.ensures)).1

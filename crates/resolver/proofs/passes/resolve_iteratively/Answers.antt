@@ -12,17 +12,17 @@ use Rattle.resolver.proofs.passes.resolve_iteratively.Goals as goal
 pub returns-then-m-eq0 : goal.returns-then-m-eq0
 returns-then-m-eq0 c =
     let given : Lists =
-        lists c.args.kinds.now c.args.operands.now c.args.numbers.now c.args.states.now c.args.rows [] in
+    lists c.args.kinds.now c.args.operands.now c.args.numbers.now c.args.states.now c.args.rows [] in
     let passes : ℕ → Bool → Pass =
-        pass_at c.args.banks (given) in
+    pass_at c.args.banks (given) in
     no-limit (passes) c.args.limit c.if-m-eq0.true c.last_pass.ensures
 
 pub returns-then-n-enough : goal.returns-then-n-enough
 returns-then-n-enough c =
     let given : Lists =
-        lists c.args.kinds.now c.args.operands.now c.args.numbers.now c.args.states.now c.args.rows [] in
+    lists c.args.kinds.now c.args.operands.now c.args.numbers.now c.args.states.now c.args.rows [] in
     let passes : ℕ → Bool → Pass =
-        pass_at c.args.banks (given) in
+    pass_at c.args.banks (given) in
     let l = c.loop-n in
     limit-pass (passes) c.args.limit c.args.rows l.n c.if-m-eq0.false
     (λ p. λ h. repeats c.args.banks (given) p false c.requires.rowed.some h)
@@ -31,9 +31,9 @@ returns-then-n-enough c =
 pub returns-in-Refused : goal.returns-in-Refused
 returns-in-Refused c =
     let given : Lists =
-        lists c.args.kinds.now c.args.operands.now c.args.numbers.now c.args.states.now c.args.rows [] in
+    lists c.args.kinds.now c.args.operands.now c.args.numbers.now c.args.states.now c.args.rows [] in
     let passes : ℕ → Bool → Pass =
-        pass_at c.args.banks (given) in
+    pass_at c.args.banks (given) in
     let l = c.loop-n in
     refused-pass (passes) c.args.limit l.n l.invariant.0 c.loop-n-test.true l.invariant.3
     c.pass_at.ensures c.in-Refused.is
@@ -41,9 +41,9 @@ returns-in-Refused c =
 pub returns-then-state-ne-UNRESOLVED : goal.returns-then-state-ne-UNRESOLVED
 returns-then-state-ne-UNRESOLVED c =
     let given : Lists =
-        lists c.args.kinds.now c.args.operands.now c.args.numbers.now c.args.states.now c.args.rows [] in
+    lists c.args.kinds.now c.args.operands.now c.args.numbers.now c.args.states.now c.args.rows [] in
     let passes : ℕ → Bool → Pass =
-        pass_at c.args.banks (given) in
+    pass_at c.args.banks (given) in
     let l = c.loop-n in
     settled-pass (passes) c.args.limit l.n l.invariant.0 c.loop-n-test.true l.invariant.3
     c.pass_at.ensures c.in-State.is
@@ -53,9 +53,9 @@ returns-then-state-ne-UNRESOLVED c =
 pub loop-n-preserved : goal.loop-n-preserved
 loop-n-preserved c =
     let given : Lists =
-        lists c.args.kinds.now c.args.operands.now c.args.numbers.now c.args.states.now c.args.rows [] in
+    lists c.args.kinds.now c.args.operands.now c.args.numbers.now c.args.states.now c.args.rows [] in
     let passes : ℕ → Bool → Pass =
-        pass_at c.args.banks (given) in
+    pass_at c.args.banks (given) in
     let l = c.loop-n in
     let not_yet = c.if-n-enough.false in (
       omega arith,
@@ -67,9 +67,9 @@ loop-n-preserved c =
 pub returns : goal.returns
 returns c =
     let given : Lists =
-        lists c.args.kinds.now c.args.operands.now c.args.numbers.now c.args.states.now c.args.rows [] in
+    lists c.args.kinds.now c.args.operands.now c.args.numbers.now c.args.states.now c.args.rows [] in
     let passes : ℕ → Bool → Pass =
-        pass_at c.args.banks (given) in
+    pass_at c.args.banks (given) in
     let l = c.loop-n in
     limit-pass (passes) c.args.limit c.args.rows l.n c.if-m-eq0.false
     (λ p. λ h. repeats c.args.banks (given) p false c.requires.rowed.some h)
