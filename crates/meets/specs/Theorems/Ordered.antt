@@ -20,8 +20,13 @@ use Rattle.meets.specs.Laws.Words.{OneOnly}
 
 -- ---- they leave one order
 mem-at : {k : ℕ} (l : List ℕ) → Memᴰ k l → (i : ℕ) × (i < length l) × (get_or l i 0 ≡ k)
-mem-at [] m = absurd (mathlib.Core.List.Memᴰ.not-nil m)
-mem-at (x ∷ l) m = ⊎_elim (λ e. (0, omega arith, sym e)) (λ n. let p = mem-at l n in (suc p.0, omega (arith, p.1), p.2)) (mathlib.Core.List.Memᴰ.cases_cons m)
+mem-at {k} [] m = absurd (mathlib.Core.List.Memᴰ.not-nil m)
+mem-at {k} (x ∷ l) m =
+    ⊎_elim (λ e. (0, omega arith, sym e))
+    (λ n.
+    let p : (i : ℕ) × (i < length l) × (get_or l i 0 ≡ k) = mem-at {k = k} l n in
+    (suc p.0, omega (arith, p.1), p.2))
+    (mathlib.Core.List.Memᴰ.cases_cons m)
 
 at_mem : (l : List ℕ) (i : ℕ) → i < length l → Memᴰ (get_or l i 0) l
 at_mem [] i h = absurd (omega arith)

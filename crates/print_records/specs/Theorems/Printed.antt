@@ -15,6 +15,7 @@ use Rattle.bankdef.specs.Check.{banks_of}
 use Rattle.bitvec.specs.Bits.{Bytes}
 use Rattle.bitvec.specs.Part.{is_part}
 use Rattle.bitvec.specs.Theorems.Part.{is_part-when}
+use Rattle.bitvec.specs.Written.{written}
 use Rattle.bitvec.specs.Theorems.Written.{bytes-written}
 use Rattle.blocks.specs.Outcome.{origins, sizes}
 use Rattle.blocks.specs.Walk.{block}
@@ -72,7 +73,7 @@ module _ (w : Wanted) (file : List ℕ) (fill : ℕ) (page : Opt) where
   image-bytes : (values blank : List ℕ) (l : List Item) → Bytes blank → Bytes (image_of values blank l)
   unfolding image_of
   image-bytes values blank [] b = b
-  image-bytes values blank (x ∷ l) b = image-bytes values _ l (bytes-written blank x.at values x.from x.size)
+  image-bytes values blank (x ∷ l) b = image-bytes values (written blank x.at values x.from x.size) l (bytes-written blank x.at values x.from x.size)
 
   -- the image of the build, in bytes
   abbrev pub image_in : ℕ → List ℕ
