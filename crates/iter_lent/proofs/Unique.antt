@@ -21,7 +21,7 @@ pub advanced-unique : OneOutcome 0 advanced-kinds.ps advanced-kinds.r advanced-r
 advanced-unique κs a x y e f p q = determined p q
 
 -- What `advance_lent` ensures is `Advanced`, of the record that it was lent and of the record as it leaves it, and nothing less:
--- specs/Lent.antt has `advance-lent-unique` of it. (Of a function that is proved by hand the check reads no `Learnt`.)
+-- specs/Theorems/Lent.antt has `advance-lent-unique` of it.
 pub advance-lent-ensures : {M : Type 1} {𝓤 : Ura M} (𝓛 : Logic 𝓤) (at_mem : Memory → SProp 𝓤) (run : Routine → Fun 𝓤)
     (κs : Lfts 1) (a : Args lent.signature κs) (r : Paced) (e : AtExit lent.ended κs)
     → (lent.clauses 𝓛 at_mem run κs a).ensures tt r e ≡ fact 𝓤 (Advanced a.0 a.1.0.now a.1.1.0 e.1.0.now r)

@@ -1,6 +1,6 @@
 -- Theorems about what Lent defines.
 use Rattle.std.specs.Prelude.{◌≡◌, refl, Bool, true, false}
-use Rattle.std.proofs.Common.{sym, ap, ◌∙◌}
+use Rattle.std.proofs.Common.{ap, ◌∙◌}
 use Rattle.prelude.specs.Laws.Pick.{determined}
 use Rattle.prelude.specs.Pick.{pick}
 use Rattle.prelude.specs.declared.Refusal.TheVariants.{Malformed}
