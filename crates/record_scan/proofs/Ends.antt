@@ -1,8 +1,8 @@
 -- A line that is not bad ends where its count says, and nowhere before.
 use mathlib.Core.Path.{◌≡◌, refl, sym, ap, ap₂, subst, ◌∙◌}
-use mathlib.Core.Bool.{Bool, true, false, ◌&&◌, ◌||◌}
+use mathlib.Core.Bool.{true, false, ◌&&◌}
 use mathlib.Core.List.{List, [], ◌∷◌, ◌++◌}
-use Prim.Native.Nat.{ℕ, suc, ◌+◌, ◌-◌, ◌*◌, ◌%◌, ◌≤◌, ◌<◌, min}
+use Prim.Native.Nat.{ℕ, ◌+◌, ◌-◌, ◌*◌, ◌%◌, ◌≤◌, ◌<◌, min}
 use native.Mathlib.Omega.{arith}
 use native.Mathlib.Decide.{ℕ_discrete}
 use borrow.Author.Tests.{eq-eqb, ne_eqb, eqb-true, le-ltb}
@@ -16,18 +16,17 @@ use Rattle.record_lines.specs.Digits.{value_of, all_digits, pair_at, bytes_at}
 use Rattle.record_lines.specs.Items.{bad, as_line, Says}
 use Rattle.record_lines.specs.Laws.Ends.{taken_is, Clean, clean-first, digits-clean}
 use Rattle.record_lines.specs.Laws.Lines.{first-is-front}
-use Rattle.record_lines.specs.Lines.{first_line, taken}
+use Rattle.record_lines.specs.Lines.{first_line}
 use Rattle.record_lines.specs.Sums.{sum_of}
 use Rattle.record_lines.specs.declared.Line.{Line}
-use Rattle.record_ihex_line.specs.Format.{count_of, good_line, hex_item}
+use Rattle.record_ihex_line.specs.Format.{count_of, good_line}
 use Rattle.record_ihex_line.specs.Laws.Lines.{bad-line, good-long}
 use Rattle.record_srec_line.specs.Srec.{is_s, is_sound, typed, srec_item}
 use Rattle.record_srec_line.specs.Laws.Lines.{item-bad, item-sound, sound-long, typed-bad}
 use Rattle.record_scan.specs.Reading.{format_by}
-use Rattle.record_scan.specs.Steps.{first_by, IsGood, long_by, stop_by, Stepped}
+use Rattle.record_scan.specs.Steps.{first_by, IsGood, stop_by, Stepped}
 use Rattle.record_scan.specs.Trail.{line_at, next_of}
-use Rattle.record_scan.specs.declared.Step.{Step}
-use Rattle.record_scan.proofs.Laws.{first-le, stop-inside, next-inside, next-onward, line-part}
+use Rattle.record_scan.proofs.Laws.{first-le, next-inside, next-onward, line-part}
 
 -- ---- what a line is that is not bad
 
@@ -135,7 +134,8 @@ module _ (text : List ℕ) (at stop : ℕ) (h : at ≤ stop) (k : stop ≤ lengt
 
 same-char : (text : List ℕ) (at i : ℕ) → i < length (line_at text at) → get_or (line_at text at) i 0 ≡ get_or text (at + i) 0
 same-char text at i h =
-    ap (λ (l : List ℕ). get_or l i 0) (sym (first-is-front (drop at text))) ∙ get_or-take (length (line_at text at)) (drop at text) i 0 h ∙ get_or-drop at text i 0
+    ap (λ (l : List ℕ). get_or l i 0) (sym (first-is-front (drop at text))) ∙ get_or-take (length (line_at text at)) (drop at text) i 0 h ∙
+    get_or-drop at text i 0
 
 same-pair : (text : List ℕ) (at i : ℕ) → i + 1 < length (line_at text at) → pair_at (line_at text at) i ≡ pair_at text (at + i)
 same-pair text at i h =
@@ -161,7 +161,12 @@ stop-known format state text at h g =
       | no e ↦
           let long = sound-long l (good-srec format state l e g) in
           let same : 4 ≤ length l → pair_at l 2 ≡ pair_at text (at + 2) = λ z. same-pair text at 2 (omega arith) in
-          rw (ne_eqb format 0 e) (stops (length text - at) at (length l) (4 + 2 * pair_at text (at + 2)) (length text) (omega (arith, long, same (omega arith)))
+          rw (ne_eqb format 0 e) (stops (length text - at) at (length l) (4 + 2 * pair_at text (at + 2)) (length text) (omega (
+            arith,
+            long,
+            same
+                (omega arith),
+          ))
           (omega arith) room (omega arith))
     ]
 

@@ -12,19 +12,19 @@ use borrow.Author.Tests.{le-leb, lt-leb, leb-true, leb-false, eq-eqb, ne_eqb}
 use mathlib.Core.Logic.{◌⊎◌, inl, inr}
 use Rattle.prelude.specs.Laws.Bools.{both, neither, clash, unlike}
 use Rattle.prelude.specs.Pick.{pick}
-use Rattle.record_lines.specs.Items.{Item, gives, passes, ends, bad, Format, as_line, item_of, Says}
-use Rattle.record_lines.specs.Lines.{is_lf, is_cr, lf_next, lines_of, first_line, taken}
+use Rattle.record_lines.specs.Items.{Item, gives, passes, ends, bad, as_line, Says}
+use Rattle.record_lines.specs.Lines.{is_lf, is_cr, lf_next, first_line, taken}
 use Rattle.record_lines.specs.Laws.Lines.{first-is-front}
 use Rattle.record_lines.specs.Pieces.{Piece, piece, end_of}
 use Rattle.record_lines.specs.declared.Line.{Line}
-use Rattle.record_scan.specs.Reading.{format_by, Read, sound, faulty, later, new_pieces, state_after, is_new, fine, is_none, go_on, read_from, read_text}
-use Rattle.record_scan.specs.Trail.{Trail, trail, line_at, item_at, next_of}
+use Rattle.record_scan.specs.Reading.{format_by, Read, sound, faulty, later, new_pieces, state_after, is_new, fine, go_on}
+use Rattle.record_scan.specs.Trail.{line_at, next_of}
 use Rattle.record_ihex_line.specs.Format.{hex_item}
 use Rattle.record_srec_line.specs.Srec.{srec_item, first_of}
 use Rattle.record_scan.specs.Laws.TrailLaws.{high-append, new-above, last-append, parts-append}
 use Rattle.record_scan.specs.Steps.{first_by, highest, leaves_by, lower_by, RoomAbove, RoomIs, FreeIs, edge_by, free_by, AdmitIs, last_end, parts_of, begins_by}
 use Rattle.record_scan.specs.Once.{is_free, all_new}
-use Rattle.record_scan.specs.Laws.Steps.{leaves_of, admits, high_after}
+use Rattle.record_scan.specs.Laws.Steps.{admits, high_after}
 use Rattle.record_scan.specs.declared.Admit.TheVariants.{No, High}
 use Rattle.record_scan.specs.declared.Free.{Free}
 
@@ -229,7 +229,8 @@ room-more given new first end top kind address count h r own =
     elim (bool_cases (leaves_by kind address count first end)) [
       | inr off ↦
           rw off (
-            λ z. new-append given new first end ∙ ap (λ (b : Bool). is_new given first end && b) (sym (own first end) ∙ off) ∙ and-false (is_new given first end),
+            λ z. new-append given new first end ∙ ap (λ (b : Bool). is_new given first end && b) (sym (own first end) ∙ off) ∙ and-false (is_new
+                given first end),
             λ z. absurd (omega arith),
           )
       | inl ok ↦

@@ -1,8 +1,8 @@
 -- The two loops over a file's lines: what is known before each turn, and a law for each way on.
 use mathlib.Core.Path.{◌≡◌, refl, sym, ap, subst, ◌∙◌}
 use mathlib.Core.Bool.{Bool, true, false, ◌&&◌}
-use mathlib.Core.List.{List, [], ◌∷◌, ◌++◌}
-use Prim.Native.Nat.{ℕ, zero, suc, ◌+◌, ◌<◌, ◌≤◌}
+use mathlib.Core.List.{List, []}
+use Prim.Native.Nat.{ℕ, ◌+◌, ◌<◌, ◌≤◌}
 use native.Mathlib.Nat.{le_antisymm}
 use native.Mathlib.Numerals.{add-one}
 use native.Mathlib.Omega.{arith}
@@ -13,16 +13,16 @@ use borrow.Author.Tests.{lt-leb, le-leb, ltb-true}
 use Rattle.prelude.specs.Laws.Bools.{both}
 use Rattle.prelude.specs.Pick.{pick}
 use Rattle.prelude.specs.Laws.Pick.{pick_true, pick-false}
-use Rattle.record_lines.specs.Items.{Item, Format, as_line, Says}
+use Rattle.record_lines.specs.Items.{Item, Format, as_line}
 use Rattle.record_lines.specs.Lines.{lines_of}
 use Rattle.record_lines.specs.Pieces.{Piece}
 use Rattle.record_lines.specs.declared.Line.{Line}
 use Rattle.record_scan.specs.Outcome.{fault_of}
 use Rattle.record_scan.specs.declared.Fault.TheVariants.{Good, At}
-use Rattle.record_scan.specs.Reading.{format_by, Read, sound, faulty, later, new_pieces, state_after, is_new, is_none, go_on, read_from, read_text}
+use Rattle.record_scan.specs.Reading.{format_by, Read, sound, faulty, new_pieces, is_new, is_none, go_on, read_from, read_text}
 use Rattle.record_scan.specs.Trail.{Trail, trail, line_at, item_at, next_of}
 use Rattle.record_scan.specs.Laws.TrailLaws.{lines_at, lines-past, said, moved, next-at, next-state, next-given}
-use Rattle.record_scan.specs.Steps.{first_by, IsGood, AllGood, Stepped, highest, rises, Scanned, ScanIs}
+use Rattle.record_scan.specs.Steps.{first_by, AllGood, Stepped, highest, rises, Scanned, ScanIs}
 use Rattle.record_scan.specs.Steps.{lower_by, RoomAbove, FreeIs, all_free, free_by, AdmitIs, last_end, parts_of, begins_by, nowhere, looks_by, walk_of, WalkIs}
 use Rattle.record_scan.specs.Once.{is_free, new_at, new_line, Once}
 use Rattle.record_scan.specs.Laws.Steps.{leaves_of, leaves-new, admits}
@@ -115,7 +115,8 @@ up_to {P} {n} before here k z =
 
 read_step : (f : Format) (load : ℕ) (text : List ℕ) (at state : ℕ) (given : List Piece) → at < length text
     → read_from f load (lines_of (drop at text)) state given
-    ≡ go_on load given (is_none (lines_of (drop (next_of text at) text))) (read_from f load (lines_of (drop (next_of text at) text))) (f state (line_at text at))
+    ≡ go_on load given (is_none (lines_of (drop (next_of text at) text))) (read_from f load (lines_of (drop (next_of text at) text))) (f state
+    (line_at text at))
 unfolding read_from
 read_step f load text at state given h = ap (λ (ls : List (List ℕ)). read_from f load ls state given) (lines_at text at h)
 

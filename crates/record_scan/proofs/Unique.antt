@@ -14,7 +14,7 @@ use Rattle.record_lines.specs.Spelling.{Spells}
 use Rattle.record_lines.specs.declared.Line.{Line}
 use Rattle.record_lines.specs.Laws.Items.{one_line}
 use Rattle.record_lines.specs.Pieces.{Piece}
-use Rattle.record_scan.specs.Reading.{Read, sound, faulty, read_text}
+use Rattle.record_scan.specs.Reading.{sound, faulty, read_text}
 use Rattle.record_scan.specs.Steps.{highest, rises, nowhere, parts_of, Stepped, ScanIs, Scanned}
 use Rattle.record_scan.specs.Once.{is_free}
 use Rattle.record_scan.specs.Trail.{trail}

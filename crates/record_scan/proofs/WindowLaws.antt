@@ -18,14 +18,14 @@ use Rattle.bitvec.specs.Bits.{bit_at, Bytes}
 use Rattle.bitvec.specs.Laws.Bits.{bit_at-past}
 use Rattle.bitvec.specs.Clear.{cleared, Clears}
 use Rattle.bitvec.specs.Theorems.Clear.{cleared-bit}
-use Rattle.bitvec.specs.Ones.{with_ones, AnyOne, OneBetween, SetsOnes}
+use Rattle.bitvec.specs.Ones.{with_ones, AnyOne, SetsOnes}
 use Rattle.bitvec.specs.Theorems.Ones.{length-ones, bytes-ones, ones-inside, ones-outside}
 use Rattle.record_lines.specs.Items.{Item, gives, passes, ends, bad, as_line, Says}
 use Rattle.record_lines.specs.Pieces.{Piece, end_of}
 use Rattle.record_lines.specs.declared.Line.{Line}
-use Rattle.record_scan.specs.Reading.{new_pieces, is_new, read_text, faulty}
-use Rattle.record_scan.specs.Trail.{Trail, trail, item_at}
-use Rattle.record_scan.specs.Laws.TrailLaws.{said, moved, next-at, next-state, next-given}
+use Rattle.record_scan.specs.Reading.{new_pieces, is_new}
+use Rattle.record_scan.specs.Trail.{trail, item_at}
+use Rattle.record_scan.specs.Laws.TrailLaws.{moved, next-at, next-state, next-given}
 use Rattle.record_scan.specs.Once.{is_free, new_at, all_new, new_line, Once}
 use Rattle.record_scan.specs.Steps.{AllGood, Stepped, nowhere, ScanIs, WalkIs, scan_of}
 use Rattle.record_scan.specs.Windows.{all_zero, Marked, window_end, Nearer, Windowed, FirstTwice}
@@ -33,7 +33,7 @@ use Rattle.record_scan.specs.declared.Step.{Step}
 use Rattle.record_scan.specs.declared.Walk.{Walk}
 use Rattle.record_scan.specs.declared.Window.{Window}
 use Rattle.record_scan.specs.declared.Scan.TheVariants.{Broken}
-use Rattle.record_scan.proofs.Laws.{or_right, new-append, new-within, new_none}
+use Rattle.record_scan.proofs.Laws.{or_right, new-append, new-within}
 use Rattle.record_scan.proofs.Loops.{up_to}
 
 -- ---- a line's bytes, address by address
@@ -305,7 +305,8 @@ module _ (format : ℕ) (text : List ℕ) (n low : ℕ) (before : List ℕ) wher
               let kept : ((first ≤ low + j → low + j < end → ⊥)) → bit_at after j ≡ pick (is_free (trail format text (k + 1)).given (low + j)) 0 1 = λ out.
               same ∙ ones-outside scratch from stop j (λ p q. out (omega (arith, f)) (omega (arith, g))) ∙ w.marked j here
               ∙ ap (λ (b : Bool). pick b 0 1)
-              (sym (more (low + j) ∙ ap (λ (b : Bool). is_free given (low + j) && b) (outside first end (low + j) out) ∙ and-true (is_free given (low + j)))) in
+              (sym (more (low + j) ∙ ap (λ (b : Bool). is_free given (low + j) && b) (outside first end (low + j) out) ∙ and-true (is_free given (low
+              + j)))) in
               elim (dec_lt (low + j) first) [
                 | yes p ↦ kept (λ y z. omega arith)
                 | no p ↦ elim (dec_lt (low + j) end) [
