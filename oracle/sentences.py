@@ -98,7 +98,7 @@ class Test:
 # a tool's words, its status, and what stands in its answer; HEX and BAD are a file of records of banks.form, and one with a bit changed
 TOOLS = (
     ("why examples/clamp-mark-after.form", 0, "Why 0 7 12 0 128  by overlaps"),
-    ("why BROKEN", 0, "Broken (form-1) 1  by at-field"),
+    ("why BROKEN", 0, "Broken (form-1) 1  by at_field"),
     ("why examples/worked.form --bit 9", 0, "bit 9 is 1:  item-bit"),
     ("why examples/worked.form --bit 40", 2, "there is no bit 40: the image has 40 bits"),
     ("why examples/worked.form --node 1 --names NAMES", 0, "node 1 (start, a.asm:3) in pass 2: label"),

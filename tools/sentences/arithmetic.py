@@ -4,7 +4,7 @@ import re
 from .clauses import Program
 from .terms import NIL, equations, fn, folded, free, is_fn, rel
 
-FORMS = {"-": "max(%s - %s, 0)", "suc": "(%s + 1)", "pos": "%s", "negsuc": "(-1 - %s)", "natAbs": "abs(%s)", "length": "%s.n", "getD": "getD(%s, %s, %s)",
+FORMS = {"-": "max(%s - %s, 0)", "suc": "(%s + 1)", "pos": "%s", "negsuc": "(-1 - %s)", "nat_abs": "abs(%s)", "length": "%s.n", "get_or": "get_or(%s, %s, %s)",
          "take": "cut(%s, %s)[0]", "drop": "cut(%s, %s)[1]", "[]": "NONE", "replicate": "Seq((%s,) * %s)", "++": "Seq(%s.items() + %s.items())",
          "^": "(%s ** %s)", "/": "div(%s, %s)", "%": "mod(%s, %s)", "+": "(%s + %s)", "*": "(%s * %s)", "+ℤ": "(%s + %s)", "*ℤ": "(%s * %s)", "-ℤ": "(%s - %s)"}
 
@@ -115,9 +115,9 @@ class Arithmetic(Program):
             known = self.known(b, bound)
             if a[0] == "var" and known:
                 return [("let", ident(a[1]), self.py(b))], [], [a[1]]
-            if is_fn(a, "getD") and a[2][2] == b and not known and self.known(a[2][0], bound) and self.known(a[2][1], bound):
+            if is_fn(a, "get_or") and a[2][2] == b and not known and self.known(a[2][0], bound) and self.known(a[2][1], bound):
                 t, (xs, i) = self.var("t"), map(self.py, a[2][:2])
-                steps = [("flounder", "%s >= %s.n" % (i, xs), "any element past the end of a list"), ("let", ident(t[1]), "getD(%s, %s, None)" % (xs, i))]
+                steps = [("flounder", "%s >= %s.n" % (i, xs), "any element past the end of a list"), ("let", ident(t[1]), "get_or(%s, %s, None)" % (xs, i))]
                 return steps, [rel("==", b, t)], [t[1]]
             if b == ("num", 0) and not self.known(a, bound):         # numbers that add up to 0 are 0
                 if is_fn(a, "+"):

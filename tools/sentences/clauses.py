@@ -5,7 +5,7 @@ import itertools
 from .reader import Library
 from .terms import NIL, Clause, Goal, Pred, fn, free, frees, nothing, proj, subst, subterms
 
-ARITY = {"suc": 1, "pos": 1, "negsuc": 1, "natAbs": 1, "length": 1, "getD": 3, "replicate": 2, "take": 2, "drop": 2, "map": 2}
+ARITY = {"suc": 1, "pos": 1, "negsuc": 1, "nat_abs": 1, "length": 1, "get_or": 3, "replicate": 2, "take": 2, "drop": 2, "map": 2}
 FIXED = {"⊥": ("bot",), "Unit": ("top",), "true": ("lit", True), "false": ("lit", False), "[]": NIL, "zero": ("num", 0)}
 TYPES = {"ℕ": "nat", "ℤ": "int", "Bool": "bool", "Unit": "unit", "List": "list", "Type": "type"}
 SHAPES = {"pi": "fun", "arr": "fun", "prod": "pair", "sig": "pair"}

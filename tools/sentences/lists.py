@@ -87,23 +87,23 @@ class Lists(Arithmetic):
             return None
         xy = self.var("x", "nat"), self.var("y", "nat")
         for k, z in zip((i, j), xy):
-            conclusion = [replace(c, ("fn", "getD", (("var", v), k, ("num", 0))), z) for c in conclusion]
+            conclusion = [replace(c, ("fn", "get_or", (("var", v), k, ("num", 0))), z) for c in conclusion]
         tests = [self.pure(c, st.bound | {z[1] for z in xy}) for c in conclusion]
         return None if None in tests else "lambda %s: %s" % (listed(z[1] for z in xy), " and ".join("(%s)" % t for t in tests))
 
     def member_of(self, v, g):
-        """Of ".. k .. → some i with getD l i ≡ k": k, and the premises that find it."""
+        """Of ".. k .. → some i with get_or l i ≡ k": k, and the premises that find it."""
         vs, premises, further, conclusion = g.fa
-        found = [b[1] for _, a, b in equations(conclusion) if is_fn(a, "getD") and a[2][0] == ("var", v) and b[0] == "var" and b[1] in vs]
+        found = [b[1] for _, a, b in equations(conclusion) if is_fn(a, "get_or") and a[2][0] == ("var", v) and b[0] == "var" and b[1] in vs]
         return (found[0], premises) if found and further and v not in frees(premises) else None
 
     def nothing_else(self, v, k, premises, universals):
-        """Whether each element of a list is said to meet the premises by which k stands in it: "i < length l → .. getD l i ..", or of the i at a place."""
+        """Whether each element of a list is said to meet the premises by which k stands in it: "i < length l → .. get_or l i ..", or of the i at a place."""
         for vs, said, further, conclusion in (g.fa for g in universals):
             inside = [x.parts[0] for x in said if x.label == "<" and x.parts[1] == length(v)]
-            named = {b[1]: ("var", k) for _, a, b in equations(said) if is_fn(a, "getD") and a[2][0] == ("var", v) and a[2][1] in inside and b[0] == "var"}
+            named = {b[1]: ("var", k) for _, a, b in equations(said) if is_fn(a, "get_or") and a[2][0] == ("var", v) and a[2][1] in inside and b[0] == "var"}
             if not further and len(inside) == 1 and len(said) == 1 + len(named):
-                cell = ("fn", "getD", (("var", v), inside[0], ("num", 0)))
+                cell = ("fn", "get_or", (("var", v), inside[0], ("num", 0)))
                 have = [replace(subst(c, named), cell, ("var", k)) for c in conclusion]
                 own = [x for x in frees(premises) if x != k and x not in frees(have)]
                 if all(any(c.label == p.label and all(a == b or b[1] in own for a, b in zip(c.parts, p.parts)) for c in have) for p in premises):
@@ -117,7 +117,7 @@ class Lists(Arithmetic):
             n, i, u, goals = self.var("n", "nat"), self.var("i", "nat"), self.var("u", "list"), []
             for g in [g for g in st.goals if g.fa and len(g.fa[0]) == 1]:
                 said = [replace(subst(x, {g.fa[0][0]: i}), length(v), n) for x in g.ways[0][1]]
-                said = [replace(x, ("fn", "getD", (("var", v), i, NIL)), u) for x in said if (x.label, x.parts) != ("<", (i, n))]
+                said = [replace(x, ("fn", "get_or", (("var", v), i, NIL)), u) for x in said if (x.label, x.parts) != ("<", (i, n))]
                 if u[1] in frees(said) and all(x in st.bound or x in (i[1], u[1], n[1]) for x in frees(said)):
                     goals += self.negate([], said)[1]
             given = [x for x in frees(goals) if x in st.bound] + [n[1]]
@@ -134,7 +134,7 @@ class Lists(Arithmetic):
             conclusion, ends = list(st.c.fa[3]), []
             if not all(g.kind == "rel" for g in conclusion):
                 continue
-            for t in [t for g in conclusion for t in subterms(g) if is_fn(t, "getD")]:
+            for t in [t for g in conclusion for t in subterms(g) if is_fn(t, "get_or")]:
                 at, i = t[2][:2]
                 r = self.linear(i, st.bound)
                 times = folded(i[2][1]) if is_fn(i, "/") and i[2][0] == ("var", x) else None
@@ -195,7 +195,7 @@ class Lists(Arithmetic):
         facts, unread = [], False
         for goals in [conclusion] if further else [[x] for x in conclusion]:
             cells = {t: self.var("u", "list" if t[2][2] == NIL else "cell") for x in goals for t in dict.fromkeys(subterms(x))
-                     if is_fn(t, "getD") and t[2][0][0] == "var" and t[2][0][1] in counts}
+                     if is_fn(t, "get_or") and t[2][0][0] == "var" and t[2][0][1] in counts}
             for t, u in cells.items():
                 goals = [replace(x, t, u) for x in goals]
             f = None if not cells or any(v in counts for v in frees(goals + premises)) else self.fact(g, cells, vs, premises, goals, counts, st)

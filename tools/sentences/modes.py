@@ -309,5 +309,5 @@ class Modes(Lists):
                     e = NIL
                     for _ in range(n):
                         e = ("fn", "∷", (self.var("e", "nat"), e))
-                    if not any(is_fn(x, "getD") and elements(x[2][0])[0] for y in st.goals for x in subterms(subst(y, {v: e}))):
+                    if not any(is_fn(x, "get_or") and elements(x[2][0])[0] for y in st.goals for x in subterms(subst(y, {v: e}))):
                         return st.put(v, e)

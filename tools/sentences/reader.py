@@ -17,9 +17,10 @@ class Unreadable(Exception):
 
 
 class Parser:
-    def __init__(self, text):
+    """aliases: what the file calls other files; a word with a dot behind one of these is a name of that file, behind any other a projection."""
+    def __init__(self, text, aliases=()):
         found = list(TOKEN.finditer(text))
-        self.text, self.t, self.ends, self.i = text, [m.group() for m in found] + [None], [0] + [m.end() for m in found], 0
+        self.aliases, self.text, self.t, self.ends, self.i = aliases, text, [m.group() for m in found] + [None], [0] + [m.end() for m in found], 0
 
     def peek(self):
         return self.t[self.i]
@@ -99,7 +100,8 @@ class Parser:
             b = self.binder()
             params += [(n, b[1]) for n in b[0]] if b else [(self.next(), None)]
         start, body = self.i, self.expr()
-        return ("lam", tuple(params), body, frozenset(self.t[start:self.i]), self.since(start))
+        words = frozenset(word for t in self.t[start:self.i] for word in (t, t.partition(".")[0]))
+        return ("lam", tuple(params), body, words, self.since(start))
 
     def app(self):
         f, args = self.post(), []
@@ -114,7 +116,8 @@ class Parser:
     def post(self):
         e = self.atom()
         while self.peek() and self.peek()[0] == "." and len(self.peek()) > 1:
-            e = ("proj", e, self.next()[1:].strip("«»"))
+            for field in self.next()[1:].split("."):
+                e = ("proj", e, field.strip("«»"))
         return e
 
     def atom(self):
@@ -135,7 +138,13 @@ class Parser:
             return ("rec", tuple(fields))
         if t in STOP:
             raise Unreadable("%r in: %s" % (t, self.text[:200]))
-        return ("num", int(t)) if t.isdigit() else ("id", t)
+        if t.isdigit():
+            return ("num", int(t))
+        head, *fields = t.split(".")
+        e, fields = (("id", ".".join((head, fields[0]))), fields[1:]) if head in self.aliases and fields else (("id", head), fields)
+        for field in fields:
+            e = ("proj", e, field.strip("«»"))
+        return e
 
 
 class Def:
@@ -177,17 +186,20 @@ class File:
             made = self.item(words, comment, line, tuple(d for _, d in stack if d.kind == "module"), stack[-1][1] if stack else None)
             stack += [(indent, made)] if made else []
 
+    def parser(self, text):
+        return Parser(text, self.alias)
+
     def item(self, words, comment, line, blocks, within):
         if within and within.kind != "module":
             name, of = re.match(r"(?:pub )?(\S+) : (.*)", words, re.S).groups()
-            within.parts.append((name, Parser(of).whole(), comment, line))
+            within.parts.append((name, self.parser(of).whole(), comment, line))
             self.constructors |= {name} if within.kind == "data" else set()
         elif words.startswith("use "):
             path, names, alias = re.match(r"use (\S+?)(?:\.\{(.*)\})?(?: as (\S+))?$", words).groups()
             self.imports.update((n.strip(), path) for n in (names or "").split(",") if n.strip())
             self.alias[alias] = path
         elif words.startswith("module "):
-            return Def("module", "", self, blocks, Parser(words.split(None, 2)[2]).telescope())
+            return Def("module", "", self, blocks, self.parser(words.split(None, 2)[2]).telescope())
         elif not words.startswith(("pub mod ", "infix")):
             return self.declaration(words, comment, line, blocks)
         return None
@@ -195,23 +207,23 @@ class File:
     def declaration(self, words, comment, line, blocks):
         m = re.match(r"(?:pub )?(data|record) (\S+)(.*)where$", words)
         if m:
-            p = Parser(m.group(3))
+            p = self.parser(m.group(3))
             params = p.telescope()
             p.want(":")
             made = self.defs[m.group(2)] = Def(m.group(1), m.group(2), self, blocks, params, p.whole(), comment, line)
             return made
         m = re.match(r"(?:abbrev|unfoldable) (?:pub )?(\S+)((?: \{.*?\})*) : (.*)", words)
         if m:
-            self.defs[m.group(1)] = Def("abbrev", m.group(1), self, blocks, [], Parser(m.group(3)).whole(), comment, line)
+            self.defs[m.group(1)] = Def("abbrev", m.group(1), self, blocks, [], self.parser(m.group(3)).whole(), comment, line)
             return None
         d = self.defs.get(words.split()[0])
         if d and d.kind == "abbrev" and " = " in words:
             left, right = words.split(" = ", 1)
-            p, patterns = Parser(re.sub(r"\{.*?\}", "", left)), []
+            p, patterns = self.parser(re.sub(r"\{.*?\}", "", left)), []
             p.next()
             while p.peek():
                 patterns.append(p.post())
-            d.eqs.append((patterns, Parser(right).whole()))
+            d.eqs.append((patterns, self.parser(right).whole()))
         return None
 
 
@@ -231,7 +243,7 @@ class Library:
         return [self.file(p) for p in sorted(self.crates.glob("says*/specs/*.antt"))]
 
     def of_use(self, use):
-        m = re.match(r"Rattle·([^.·]+)(?:·specs)?\.specs\.(.*)$", use)
+        m = re.match(r"Rattle\.([^.]+)\.specs\.(.*)$", use)
         path = self.crates / m.group(1) / "specs" / (m.group(2).replace(".", "/") + ".antt") if m and ".declared." not in use else None
         return self.file(path) if path and path.is_file() else None
 
@@ -245,4 +257,4 @@ class Library:
         there = self.of_use(file.imports[name]) if name in file.imports else None
         if there:
             return self.lookup(there, name)
-        return ("con" if name in file.constructors or "the-variants" in file.imports.get(name, "") else "out"), name
+        return ("con" if name in file.constructors or "TheVariants" in file.imports.get(name, "") else "out"), name

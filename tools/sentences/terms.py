@@ -82,9 +82,9 @@ def fn(op, args):
         return ("num", n[1] + 1) if n[0] == "num" else ("fn", "suc", (n,))
     if op == "length" and is_fn(a, "++"):
         return ("fn", "+", tuple(fn("length", (x,)) for x in a[2]))
-    if op == "getD" and is_fn(a, "∷") and folded(args[1]) is not None:
+    if op == "get_or" and is_fn(a, "∷") and folded(args[1]) is not None:
         i = folded(args[1])
-        return a[2][0] if i == 0 else fn("getD", (a[2][1], ("num", i - 1), args[2]))
+        return a[2][0] if i == 0 else fn("get_or", (a[2][1], ("num", i - 1), args[2]))
     return ("fn", op, args)
 
 

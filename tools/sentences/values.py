@@ -82,7 +82,7 @@ def brief(v):
 
 
 # ---- what the code calls: each as the kit's library has it on natural numbers and lists
-def getD(xs, i, default):
+def get_or(xs, i, default):
     return xs.t[xs.at + i] if i < xs.n else default
 
 
