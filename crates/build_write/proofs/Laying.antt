@@ -11,7 +11,6 @@ use lib.Dec.{ltb, eqb}
 use lib.ListN.{length, get_or, replicate, length-replicate, get_or-eq_default}
 use Rattle.prelude.specs.Laws.Bools.{either, clash, both, unlike, or_right}
 use Rattle.prelude.specs.Pick.{pick}
-use Rattle.prelude.specs.declared.Opt.{Opt}
 use Rattle.prelude.specs.declared.Opt.TheVariants.{None, Some}
 use Rattle.bankdef.specs.Check.{no_bank}
 use Rattle.bankdef.specs.FillBits.{fills_at, ones_at, fill_bit_at, FillsBit, One}
@@ -25,7 +24,7 @@ use Rattle.bitvec.specs.Numeral.{Bits}
 use Rattle.bitvec.specs.Laws.Numeral.{pick-lt}
 use Rattle.bitvec.specs.Ones.{with_ones}
 use Rattle.bitvec.specs.Theorems.Ones.{only-ones}
-use Rattle.build_write.specs.Blank.{blank_bit, blank_of}
+use Rattle.build_write.specs.Blank.{blank_of}
 use Rattle.build_visits.specs.Laws.ItemLaws.{zeros-bit, zeros-bytes}
 use Rattle.build_write.specs.Steps.{OnesOf}
 

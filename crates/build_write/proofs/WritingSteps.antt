@@ -26,7 +26,7 @@ use Rattle.resolver.specs.Walking.{Walks}
 use Rattle.build_visits.specs.declared.Visit.{Visit}
 use Rattle.build_visits.specs.Visits.{visit_at, visits}
 use Rattle.build_visits.specs.Laws.VisitLaws.{visit-member, each_member}
-use Rattle.build_visits.specs.Items.{Item, is_written, standing, item_at, item_of, image_of}
+use Rattle.build_visits.specs.Items.{is_written, standing, item_at, item_of, image_of}
 use Rattle.build_visits.specs.Laws.ItemLaws.{image-length}
 use Rattle.build_visits.specs.Spans.{Span, is_span, span_at, over}
 use Rattle.build_visits.specs.Laws.Upto.{items_to, spans_to, image_to, spans-next, image-next as image-step, items-none, spans-none, spans-grow}
