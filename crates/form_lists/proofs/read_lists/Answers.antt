@@ -1,0 +1,19 @@
+-- `form_lists::read_lists` meets its contract: a broken file changes nothing, a sound one is read.
+use mathlib.Core.Path.{refl, sym, ◌∙◌}
+use Rattle.form_fields.specs.Theorems.Told.{lists-are}
+use Rattle.form_lists.proofs.read_lists.Goals as goal
+
+pub returns-in-Sound : goal.returns-in-Sound
+returns-in-Sound c =
+    lists-are c.fill_lists.ensures
+
+pub returns-in-Broken : goal.returns-in-Broken
+returns-in-Broken c =
+    lists-are
+    (record {
+      verdict = rw (sym c.read_shape.ensures.is ∙ c.in-Broken.is) refl;
+      of-kinds = refl;
+      of-operands = refl;
+      of-numbers = refl;
+      of-states = refl;
+    })
