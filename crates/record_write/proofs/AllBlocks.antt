@@ -132,7 +132,8 @@ module _ (format : ℕ) (image os ss : List ℕ) (load : ℕ) (old : List ℕ) w
   module _ (r : Ready image os ss load) {p : Place} {i : ℕ} {text : List ℕ} (g : AllGoing p i text) where
     module _ (h : i < length os) where
       pieces-at : (n : ℕ) → n ≡ get_or ss i 0 / 8
-          → pieces_of load image (left os ss i) ≡ cut (load + get_or os i 0 / 8) (take n (drop (get_or os i 0 / 8) image)) ++ pieces_of load image (behind os ss i)
+          → pieces_of load image (left os ss i) ≡ cut (load + get_or os i 0 / 8) (take n (drop (get_or os i 0 / 8) image)) ++ pieces_of load image
+          (behind os ss i)
       unfolding pieces_of
       pieces-at n e =
           ap (pieces_of load image) (now-at image os ss load r g.stands h)

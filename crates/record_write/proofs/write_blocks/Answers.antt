@@ -8,14 +8,16 @@ write_block-place-requires-clause-start_le_end c =
     let a = c.args in
     let h = c.loop-i-test.true in
     let f = now-fits a.image.now a.offsets.now a.sizes.now a.load c.requires.ready c.loop-i.invariant.stands h in
-    let g = now-few a.image.now a.offsets.now a.sizes.now a.load c.requires.ready c.loop-i.invariant.stands h in (omega arith, omega (arith, f.inside), omega (arith, f.below), omega (arith, g))
+    let g = now-few a.image.now a.offsets.now a.sizes.now a.load c.requires.ready c.loop-i.invariant.stands h in
+    (omega arith, omega (arith, f.inside), omega (arith, f.below), omega (arith, g))
 
 pub write_block-place-requires-clause-image_in_bounds : goal.write_block-place-requires-clause-image_in_bounds
 write_block-place-requires-clause-image_in_bounds c =
     let a = c.args in
     let h = c.loop-i-test.true in
     let f = now-fits a.image.now a.offsets.now a.sizes.now a.load c.requires.ready c.loop-i.invariant.stands h in
-    let g = now-few a.image.now a.offsets.now a.sizes.now a.load c.requires.ready c.loop-i.invariant.stands h in now-room a.format a.image.now a.offsets.now a.sizes.now a.load a.text.now c.requires.ready c.loop-i.invariant h c.requires.sizes_in_bounds
+    let g = now-few a.image.now a.offsets.now a.sizes.now a.load c.requires.ready c.loop-i.invariant.stands h in
+    now-room a.format a.image.now a.offsets.now a.sizes.now a.load a.text.now c.requires.ready c.loop-i.invariant h c.requires.sizes_in_bounds
     (get_or a.offsets.now c.loop-i.i 0 / 8 + get_or a.sizes.now c.loop-i.i 0 / 8 - get_or a.offsets.now c.loop-i.i 0 / 8) (omega arith)
 
 pub loop-i-preserved : goal.loop-i-preserved
