@@ -4,16 +4,12 @@ use Rattle.std.proofs.Common.{sym, ap, ◌∙◌, ⊎_elim, arith, leb-true, leb
 use mathlib.Core.List.Memᴰ
 use mathlib.Core.List.{List, [], ◌∷◌}
 use Rattle.prelude.specs.Laws.Bools.{either, clash, both}
-use Rattle.prelude.specs.Told.{gives}
-use Rattle.blocks.specs.declared.Blocks.{Blocks}
-use Rattle.blocks.specs.Outcome.{ToldBy}
 use Rattle.record_lines.specs.Pieces.{Piece, end_of, GivesAt}
-use Rattle.record_scan.specs.Reading.{is_new, read_text}
+use Rattle.record_scan.specs.Reading.{is_new}
 use Rattle.record_scan.specs.Sound.{Fine, none, more}
 use Rattle.record_read.specs.Given.{byte_at}
 use Rattle.record_read.specs.Laws.GivenLaws.{byte-append, byte-in, byte-before, byte-behind}
 use Rattle.record_read.specs.Laws.Facts.{gives-given}
-use Rattle.record_read.specs.Outcome.{Lent, Reads}
 use Rattle.record_read.specs.Laws.ByteFacts.{new-outside}
 
 -- Of pieces of which none gives a byte twice, each gives its own.
