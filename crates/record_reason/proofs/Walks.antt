@@ -12,11 +12,11 @@ use borrow.Author.Tests.{ne_eqb}
 use Rattle.prelude.specs.Laws.Bools.{unlike}
 use Rattle.prelude.specs.Pick.{pick}
 use Rattle.record_lines.specs.Items.{Item, gives, passes, ends, bad, as_line, Says}
-use Rattle.record_lines.specs.Lines.{lines_of, first_line, taken}
+use Rattle.record_lines.specs.Lines.{lines_of}
 use Rattle.record_lines.specs.Pieces.{Piece}
 use Rattle.record_lines.specs.declared.Line.{Line}
 use Rattle.record_scan.specs.Reading.{format_by, Read, sound, faulty, new_pieces, state_after, is_new}
-use Rattle.record_scan.specs.Trail.{trail, line_at, item_at, next_of}
+use Rattle.record_scan.specs.Trail.{trail, item_at, next_of}
 use Rattle.record_scan.specs.Steps.{Stepped}
 use Rattle.record_scan.specs.Laws.Steps.{leaves_of, leaves-new}
 use Rattle.record_scan.specs.Laws.TrailLaws.{lines_at, lines-past, moved, next-at, next-state, says-state}
