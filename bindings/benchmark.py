@@ -96,7 +96,7 @@ def machine_rows():
     model = re.search(r"model name\s*: (.*)", Path("/proc/cpuinfo").read_text())
     yield "| what | which |\n|---|---|"
     yield f"| processor | {model[1] if model else 'unknown'}, {first_line('uname', '-sm')} |"
-    yield f"| the library | {first_line('rt', '--version')} |"
+    yield f"| the library | {first_line('rt', 'version')} |"
     for name, command in (("C", "cc"), ("the Rust", "rustc"), ("instructions", "valgrind"), ("objcopy", "objcopy"), ("srec_cat", "srec_cat")):
         yield f"| {name} | {first_line(command, '--version')} |"
 

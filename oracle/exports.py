@@ -3,8 +3,9 @@
 
 What a function of crates/denkumari ensures is a sentence of crates/says. The proofs hold its body to that; what no proof sees is which parameter is given to
 which field of the sentence, and which declaration C has of it. So: every field of a record in an `ensures`, and every parameter of its sentence, is given by
-the function's parameter of its name (EXCEPT lists the others, each with its ground); what is given before the call is taken at entry, what comes after at exit;
-no parameter is left out. include/denkumari.h declares the parameters in the source's order with its types, and the fields of every struct too.
+the function's parameter of its name (EXCEPT lists the others, each with its ground); what is given before the call is taken before it, what comes after behind
+it; no parameter is left out. include/denkumari.h declares the parameters in the source's order with its types, and the fields of every struct too. The crate
+denkumari_c, from which the archive is built, exports each of them with the same parameters, the same contract and a body that hands them on.
 
 It tries itself: wherever two parameters or two fields have one type, they are exchanged in a copy of the text, and that has to be seen."""
 
@@ -21,6 +22,7 @@ sys.path.insert(0, str(ROOT / "tools"))
 import antt  # noqa: E402
 
 HEADER = "include/denkumari.h"
+THIN = manners.crates()["archive"]
 # (function, field or parameter of its sentence): what is given there, and why it has another name
 EXCEPT = {
     ("dk_profile", "limit"): ("0", "the profile reads no pass limit, and the call has none"),
@@ -69,17 +71,35 @@ def split(text, at):
     return [p.strip() for p in parts + [part] if p.strip()]
 
 
-def exports():
-    """The exported functions of the sources."""
+def exports(crate="denkumari"):
+    """The exported functions of a crate's sources, each with its body."""
     found = []
-    for file in sorted((ROOT / "crates/denkumari/src").glob("*.rt")):
+    for file in sorted((ROOT / "crates" / crate / "src").glob("*.rt")):
         text = re.sub(r"//[^\n]*", "", file.read_text(encoding="utf-8"))
-        for m in re.finditer(r'pub extern "C" fn (\w+)\((.*?)\) -> (\w+)\s+ensures \{ λ r\. ⌜(.*?)⌝ \}\s*\{', text, re.S):
-            found.append(Export(f"crates/denkumari/src/{file.name}", m.group(1), m.group(2), m.group(3), " ".join(m.group(4).split())))
-        said = len(re.findall(r"#\[no_mangle\]", text))
-        if said != len([e for e in found if e.path.endswith(file.name)]):
-            raise manners.Stop(f"crates/denkumari/src/{file.name}: an exported function has another form than this test reads")
+        for m in re.finditer(r'pub (?:extern "C" )?fn (dk_\w+)\(([^{]*?)\) -> (\w+)\s+ensures(?: \w+)? \{(.*?)\}\s*\n\{\n(.*?)\n\}', text, re.S):
+            found.append(Export(f"crates/{crate}/src/{file.name}", m.group(1), m.group(2), m.group(3), " ".join(m.group(4).split())))
+            found[-1].body = " ".join(m.group(5).split())
+        if len(re.findall(r"\bpub[^\n]* fn dk_", text)) != len([e for e in found if e.path.endswith("/" + file.name)]):
+            raise manners.Stop(f"crates/{crate}/src/{file.name}: an exported function has another form than this test reads")
     return found
+
+
+def thin_wrong(found):
+    """What is wrong with the crate whose exports C calls: each function of the library's is there once more."""
+    if not manners.is_listed(THIN):
+        print(f"left out: the exports of {THIN}: it is not in crates.txt (PORTING-LEFT.md)")
+        return []
+    thin, wrong = {e.name: e for e in exports(THIN)}, []
+    for e in found:
+        own = thin.pop(e.name, None)
+        names = ", ".join(name for name, _ in e.parameters)
+        if own is None:
+            wrong.append(f"crates/{THIN} does not export {e.name}")
+        elif (own.parameters, own.answer, own.ensures) != (e.parameters, e.answer, e.ensures):
+            wrong.append(f"{own.path}, {e.name}: its parameters, answer or contract are not those of {e.path}")
+        elif not re.fullmatch(rf"(\w+::)*{e.name}\( ?{names},? ?\)", own.body):
+            wrong.append(f"{own.path}, {e.name}: its body does not hand its parameters on, in their order")
+    return wrong + [f"crates/{THIN} exports {name}, which crates/denkumari does not have" for name in thin]
 
 
 # ---- what is given to a sentence
@@ -119,7 +139,7 @@ def given(term, name, after):
     record = re.match(r"record\{(.*)\}$", spaced(term))
     if record:
         fields = [tuple(x.strip() for x in f.split("=", 1)) for f in split(record.group(1), ";")]
-        after = after or ("answer", "r") in fields
+        after = after or ("answer", "result") in fields
         return [leaf for field, value in fields for leaf in given(value, field, after)]
     parts = split(term, ",")
     if len(parts) > 1:
@@ -166,9 +186,16 @@ def said_as(export, name):
 
 
 def taken(term):
-    """The parameter that a term takes, and when: entry, exit, or at once for a number."""
-    m = re.match(r"now \(«?(\w+)»? \.(entry|exit)\)$", term)
+    """The parameter that a term takes, and when: now, old, new, or at once for a number."""
+    m = re.match(r"«?(\w+)»?\.(now|old|new)$", term)
     return m.groups() if m else (term.strip("«»"), "")
+
+
+def moment(kind, after):
+    """How a parameter is taken: as it is, or what a `&` leads to, or what a `&mut` leads to before the call or behind it."""
+    if kind.startswith("&mut"):
+        return "new" if after else "old"
+    return "now" if kind.startswith("&") else ""
 
 
 def wrong_with(export):
@@ -176,7 +203,7 @@ def wrong_with(export):
     wrong, kinds, entry, left = [], dict(export.parameters), [], []
     for field, term, after in leaves(export):
         word, when = taken(term)
-        if after and word == "r":
+        if after and word == "result":
             continue
         expected = EXCEPT.get((export.name, field), (snake(field or word),))[0]
         if word != expected:
@@ -185,7 +212,7 @@ def wrong_with(export):
             continue
         if word not in kinds:
             wrong.append(f"{word} is no parameter")
-        elif when != ("" if not kinds[word].startswith("&") else "exit" if after else "entry"):
+        elif when != moment(kinds[word], after):
             wrong.append(f"{word} is taken at {when or 'no time'}, {'after' if after else 'before'} the call")
         (left if after else entry).append(word)
     for name, said in [(n, entry) for n, _ in export.parameters] + [(n, left) for n in export.lent()]:
@@ -327,6 +354,7 @@ def main():
     told, source = prototypes(text), structs_of_source()
     wrong = [w for e in found for w in wrong_with(e) + told_wrong(e, told)] + unneeded(found) + structs_wrong(source, structs_of_header(text))
     wrong += [f"{HEADER}: {name} is declared, and not exported" for name in told if name not in {e.name for e in found}]
+    wrong += thin_wrong(found)
     if not wrong:
         missed, pairs = unseen_in_contracts(found)
         more, others = unseen_in_header(found, told, source)

@@ -19,7 +19,7 @@ sys.path.insert(0, str(TOOLS))
 
 # a file, the text in it, what stands in its place
 DAMAGES = [
-    ("docs/PROVING.md", "`first-passes`", "`first-passed`"),
+    ("docs/PROVING.md", "`first_passes`", "`first_passed`"),
     ("docs/PROVING.md", "`sort/Sorted`", "`sort/Sorting`"),
     ("docs/DECISIONS.md", "`resolver/RaisedLimit.edge-moves`", "`resolver/RaisedLimit.edge-move`"),
     ("docs/DECISIONS.md", "| `overlap_checker::hit_before` |", "| the hit before |"),
