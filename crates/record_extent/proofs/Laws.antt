@@ -21,7 +21,6 @@ use Rattle.record_scan.specs.declared.Scan.{Scan}
 use Rattle.record_scan.specs.declared.Scan.TheVariants.{Whole, Broken}
 use Rattle.record_scan.specs.declared.Step.{Step}
 use Rattle.record_extent.specs.Extent.{lowest_of, extent_of}
-use Rattle.record_extent.specs.declared.Extent.{Extent}
 use Rattle.record_extent.specs.declared.Extent.TheVariants.{Spans, Refused}
 
 -- ---- the lowest address of pieces
