@@ -8,7 +8,12 @@ use Rattle.std.proofs.Math.ListN.{get_or-eq_default}
 use Rattle.overlap_checker.specs.declared.Entry.{Entry}
 use Rattle.overlap_checker.specs.Entries.{entry_at}
 use Rattle.overlap_checker.specs.Interval.{interval, clashes}
-use Rattle.overlap_checker.specs.Naming.{IsNamed}
+use Rattle.overlap_checker.specs.Naming.{IsNamed, Named}
+use Rattle.overlap_checker.specs.Marks.{crosses_any, lowest_inside}
+use Rattle.overlap_checker.specs.State.{State, meets}
+use Rattle.overlap_checker.specs.Rising.{Rising}
+use Rattle.overlap_checker.specs.Laws.MarkLaws.{lowest-least}
+use Rattle.overlap_checker.specs.Theorems.Answers.{hit-either}
 use Rattle.overlap_checker.specs.Offers.{place_for, clashes_any, named}
 use Rattle.overlap_checker.specs.Laws.Ascending.{told, lt-or-le, ends-before}
 use Rattle.overlap_checker.specs.Ascending.{Ascending}
@@ -113,3 +118,20 @@ module _ (l : List Entry) (a : Ascending 0 l) (e : Entry) (k : ℕ) (at : k ≡ 
 pub apart_from : (e : Entry) (l : List Entry) → clashes_any e l ≡ false → (g : Entry) → Memᴰ g l → clashes e g ≡ false
 apart_from e l none g m =
     ⊎_elim (λ hit. absurd (true≢false (sym (any_of e l g m hit) ∙ none))) (λ out. out) (told (clashes e g))
+
+-- ---- what 12 names
+
+-- Where the offer meets something, whoever is the named interval if one clashes, and the lowest mark inside if none does, is what the rules say.
+pub named-by : (s : State) (e f : Entry) → Ascending 0 s.intervals → Rising 0 s.marks
+    → (clashes_any e s.intervals ≡ true → f ≡ named s.intervals e) → (clashes_any e s.intervals ≡ false → f ≡ interval (lowest_inside e s.marks) 0)
+    → meets s e ≡ true → Named s e f
+named-by s e f up rise some bare hit =
+    ⊎_elim
+    (λ clash. rw (some clash) (inl (named-is s.intervals up e (place_for e.position s.intervals) refl clash)))
+    (λ none. let cross : crosses_any e s.marks ≡ true =
+    ⊎_elim (λ clash. absurd (true≢false (sym clash ∙ none))) (λ c. c) (hit-either s e hit) in
+    let (member, inside, least) = lowest-least e 0 s.marks rise cross in
+    rw (bare none)
+    (inr
+    (record { clear = apart_from e s.intervals none; member = member; empty = refl; inside = inside; lowest = least })))
+    (told (clashes_any e s.intervals))

@@ -19,12 +19,12 @@ use Rattle.overlap_checker.specs.Laws.Folds.{HasInside}
 use Rattle.overlap_checker.specs.Laws.Ascending.{told, lt-or-le}
 use Rattle.overlap_checker.specs.Laws.MarkLaws.{cross-found, cross-of, crosses-none, resting-rising, resting-proper}
 use Rattle.overlap_checker.specs.Theorems.Answers.{clear_apart, apart-clear, clash-hits, cross-hits, hit-either, three_ways, answer-overlaps, answer-full}
-use Rattle.overlap_checker.specs.Theorems.Answers.{answer-passes}
+use Rattle.overlap_checker.specs.Theorems.Answers.{answer-passes, named-interval, named-mark}
 use Rattle.overlap_checker.specs.Laws.Answers.{room-below, no_room, mark-room, no-mark-room}
 use Rattle.overlap_checker.specs.Laws.Going.{Fits, fits-empty, fits-folded}
 use Rattle.overlap_checker.specs.Laws.Faults.{same_number, ascending-proper}
 use Rattle.overlap_checker.specs.Laws.WhatIsStored as what
-use Rattle.overlap_checker.specs.Theorems.WhoIsNamed.{named-as}
+use Rattle.overlap_checker.specs.Laws.WhoIsNamed.{named-by}
 use Rattle.overlap_checker.specs.Laws.Demand3.{clash-inside, clash-shares, few-after}
 
 module _ (s : State) (e : Entry) (node : ℕ) where
@@ -134,7 +134,7 @@ module _ (s : State) (e : Entry) (node : ℕ) where
       let hit = overlap-is-hit.0 r in (
         named_in s e,
         ap told_verdict (answer-overlaps s e node hit),
-        named-as s e fits.up (resting-rising s.intervals 0 s.marks fits.rests) hit,
+        named-by s e (named_in s e) fits.up (resting-rising s.intervals 0 s.marks fits.rests) (named-interval s e) (named-mark s e) hit,
       )
 
 module _ (es : List Entry) where
