@@ -36,6 +36,8 @@ ROWS = 'docs/statements'
 # the rows of the first page, and how many lines all pages may have
 FIRST = '0-reading'
 MOST_LINES = 1600
+# the crate whose exports C calls
+THIN = 'denkumari_c'
 KEYS = {
     'row': ['says', 'theorem', 'headline', 'where', 'only', 'definition', 'function', 'edit', 'note'],
     'function': ['not', 'one'],
@@ -402,6 +404,9 @@ def all_named(seen):
     crates = sorted(os.path.basename(os.path.dirname(p)) for p in glob.glob(os.path.join(ROOT, 'crates/*/src')))
     changed = {n for k, n in seen.blocks if k == 'together'}
     for c in crates:
+        if c == THIN:
+            # each of its functions is one of the library's once more (oracle/exports.py)
+            continue
         for name, (_, public, _) in sorted(functions_of(c).items()):
             if public and ('::', c, name) not in seen.cited:
                 fault(f'a public function that is not on the pages: {c}::{name}')
