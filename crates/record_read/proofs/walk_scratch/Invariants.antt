@@ -7,7 +7,9 @@ use Rattle.record_read.specs.Steps.{Listed}
 use Rattle.record_read.proofs.walk_scratch.Given as goal
 
 abbrev pub invariant-loop-from : goal.invariant-loop-from
-invariant-loop-from l = Listed (is_given l.load (trail l.format l.text l.n).given) l.initial.offsets l.initial.sizes l.walk.run l.from l.walk.count l.offsets l.sizes × (l.scratch ≡ l.initial.scratch)
+invariant-loop-from l =
+    Listed (is_given l.load (trail l.format l.text l.n).given)
+    l.initial.offsets l.initial.sizes l.walk.run l.from l.walk.count l.offsets l.sizes × (l.scratch ≡ l.initial.scratch)
 
 abbrev pub decreases-loop-from : goal.decreases-loop-from
 decreases-loop-from l = l.end - l.from
