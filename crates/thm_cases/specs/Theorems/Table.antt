@@ -24,11 +24,11 @@ use Rattle.blocks.specs.Walk.{blocks_from}
 use Rattle.build_plan.specs.Placing.{checked}
 use Rattle.thm_cases.specs.Table.{Case, Cases, table}
 
-every-row : map (λ (c : Case). c.got) table ≡ map (λ (c : Case). c.said) table
+pub cases : Cases
 unfolding distance_of first_where first_pair fill_from state_after after keeping tries meets named_in count_below crosses_any lowest_inside place_for
     clashes_any named lacks_room clashes shares_bit strictly_inside checked insert_by sorted_by spans_of blocks_from layout_of lists_of nodes_to settled_by
     first pass_to list_of numeral bit_at digit_at digit_value padded_bit
-every-row = refl
-
-pub cases : Cases
 cases = record { any = distance_cases.none; rows = every-row }
+  where
+    every-row : map (λ (c : Case). c.got) table ≡ map (λ (c : Case). c.said) table
+    every-row = refl
