@@ -1,4 +1,3 @@
 pub mod EntryLaws
 pub mod MapLaws
-pub mod MetLaws
 pub mod Unique
