@@ -111,6 +111,7 @@ take_from_ci() (
     mkdir -p target/sum target/bin target/staticlib || say "target/ cannot be written"
     alone
     for one in crates/*/src/main.rt; do
+        [ -f "$one" ] || continue
         one=${one#crates/} one=${one%%/*}
         ! is_listed "$one" || [ ! -f "crates/$one/out/$one" ] || kept "$one" "crates/$one/out/$one" "target/bin/$one"
     done
