@@ -17,11 +17,11 @@ use Rattle.bitvec.specs.Part.{IsPart, Judges, PartTold, Unfit, empty, fit, is_pa
 pub is_part-true : (len offset size : ℕ) → is_part len offset size ≡ true → IsPart len offset size
 unfolding is_part
 is_part-true len offset size t =
-    let both = (and-eq-true_iff (ltb 0 size && eqb (offset % 8) 0 && eqb (size % 8) 0) (ends_within len offset size)).0 t in
-    let three = (and-eq-true_iff (ltb 0 size && eqb (offset % 8) 0) (eqb (size % 8) 0)).0 both.0 in
-    let two = (and-eq-true_iff (ltb 0 size) (eqb (offset % 8) 0)).0 three.0 in
+    let both = (and-eq-true_iff _ (ends_within len offset size)).0 t in
+    let three = (and-eq-true_iff _ (eqb (size % 8) 0)).0 both.0 in
+    let two = (and-eq-true_iff _ (eqb (offset % 8) 0)).0 three.0 in
     record {
-      some = ltb-true 0 size two.0;
+      some = omega (arith, ltb-true _ _ two.0);
       starts = eqb-true (offset % 8) 0 two.1;
       ends = eqb-true (size % 8) 0 three.1;
       inside = leb-true (offset + size) (8 * len) both.1;
@@ -32,35 +32,47 @@ unfolding is_part
 is_part-when len offset size p =
     rw (lt-ltb 0 size p.some, p.starts, p.ends) (le-leb (offset + size) (8 * len) p.inside)
 
-unfit-of : (len offset size : ℕ) → is_part len offset size ≡ false → Unfit len offset size
-unfit-of len offset size e =
+unfit-of : (len offset size : ℕ) → (IsPart len offset size → ⊥) → Unfit len offset size
+unfit-of len offset size n =
     either (eqb size 0) (λ a. empty (eqb-true size 0 a))
     (λ a. either (eqb (offset % 8) 0)
     (λ b. either (eqb (size % 8) 0)
     (λ c. either (ends_within len offset size)
-    (λ d. absurd (clash (is_part-when len offset size (record {
+    (λ d. absurd (n (record {
       some = omega (arith, eqb-false size 0 a);
       starts = eqb-true (offset % 8) 0 b;
       ends = eqb-true (size % 8) 0 c;
       inside = leb-true (offset + size) (8 * len) d;
-    })) e))
+    })))
     (λ d. outside (leb-false (offset + size) (8 * len) d)))
     (λ c. ragged-end (eqb-false (size % 8) 0 c)))
     (λ b. ragged-start (eqb-false (offset % 8) 0 b)))
 
-by-test : (len offset size : ℕ) (t : Bool) → is_part len offset size ≡ t → PartTold len offset size (told_verdict (pick t Accepted (Refused BadPart)))
-by-test len offset size true e = fit (is_part-true len offset size e)
-by-test len offset size false e = unfit (unfit-of len offset size e)
+-- What is told by a test that finds each part. That `is_part` finds it is shown anew in each theorem that follows from it here, so
+-- that a definition that finds none is refused in each of them alone.
+by-test : (len offset size : ℕ) (t : Bool) → (t ≡ true → IsPart len offset size) → (IsPart len offset size → t ≡ true)
+    → PartTold len offset size (told_verdict (pick t Accepted (Refused BadPart)))
+by-test len offset size true is finds = fit (is refl)
+by-test len offset size false is finds = unfit (unfit-of len offset size (λ p. clash (finds p) refl))
+
+told-by : (image : List ℕ) (offset size : ℕ) → (IsPart (length image) offset size → is_part (length image) offset size ≡ true)
+    → {verdict : Verdict} → verdict ≡ part_verdict image offset size → PartTold (length image) offset size (told_verdict verdict)
+told-by image offset size finds e =
+    subst (λ (v : Verdict). PartTold (length image) offset size (told_verdict v)) (sym e)
+    (by-test (length image) offset size (is_part (length image) offset size) (is_part-true (length image) offset size) finds)
 
 pub part-told : (image : List ℕ) (offset size : ℕ) {verdict : Verdict} → verdict ≡ part_verdict image offset size
     → PartTold (length image) offset size (told_verdict verdict)
-part-told image offset size e =
-    subst (λ (v : Verdict). PartTold (length image) offset size (told_verdict v)) (sym e)
-    (by-test (length image) offset size (is_part (length image) offset size) refl)
+unfolding is_part
+part-told image offset size =
+    told-by image offset size (λ p. rw (lt-ltb 0 size p.some, p.starts, p.ends) (le-leb (offset + size) (8 * length image) p.inside))
 
 -- 16 is given exactly when a part of an image is empty, outside it, or not on byte edges.
 pub sixteen-exactly : (image : List ℕ) (offset size : ℕ) → (told_number (told_verdict (part_verdict image offset size)) ≡ 16) ↔ Unfit (length image) offset size
-sixteen-exactly image offset size = (from (part-told image offset size refl), λ u. of u)
+unfolding is_part
+sixteen-exactly image offset size =
+    (from (told-by image offset size
+    (λ p. rw (lt-ltb 0 size p.some, p.starts, p.ends) (le-leb (offset + size) (8 * length image) p.inside)) refl), λ u. of u)
   where
     from : {t : Told Nothing} → PartTold (length image) offset size t → told_number t ≡ 16 → Unfit (length image) offset size
     from (fit p) e = absurd (omega arith)
@@ -70,7 +82,12 @@ sixteen-exactly image offset size = (from (part-told image offset size refl), λ
     of u = either (is_part (length image) offset size) (λ e. absurd (fit-not u (is_part-true (length image) offset size e))) (λ e. rw e)
 
 pub judged : (image : List ℕ) (offset size : ℕ) {verdict : Verdict} → verdict ≡ part_verdict image offset size → Judges image offset size verdict
-judged image offset size e = record { answer = e; told = part-told image offset size e }
+unfolding is_part
+judged image offset size e = record {
+  answer = e;
+  told = told-by image offset size
+      (λ p. rw (lt-ltb 0 size p.some, p.starts, p.ends) (le-leb (offset + size) (8 * length image) p.inside)) e;
+}
 
 -- "Refused (16), the part is empty"
 pub part_none : (image : List ℕ) (offset size : ℕ) → Unfit (length image) offset size → part_of image offset size ≡ []
