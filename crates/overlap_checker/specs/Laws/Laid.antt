@@ -1,6 +1,7 @@
 -- Intervals that stand in two lists, and a state laid into them: what is laid is held, and what is held, laid again, changes nothing.
 use Rattle.std.specs.Prelude.{◌≡◌, refl, List, [], ◌∷◌, ℕ, zero, suc, ◌≤◌, ◌<◌, length, take, drop, get_or}
-use Rattle.std.proofs.Common.{sym, ap, ap₂, ◌∙◌, le_of_suc-le-suc, not-suc-le-zero, arith, length-append, length-drop, take-append-drop, length-take-le, get_or-take, take_at}
+use Rattle.std.proofs.Common.{sym, ap, ap₂, ◌∙◌, le_of_suc-le-suc, not-suc-le-zero, arith, length-append, length-drop}
+use Rattle.std.proofs.Common.{take-append-drop, length-take-le, get_or-take, take_at}
 use Rattle.std.proofs.Math.Nat.{suc_inj}
 use Rattle.std.proofs.lemmas.List.{length-map}
 use Rattle.prelude.specs.Limits.{max_stored}

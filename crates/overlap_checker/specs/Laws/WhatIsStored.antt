@@ -38,7 +38,8 @@ module _ (s : State) (e : Entry) (later t : List Entry) where
       ⊎_elim
       (λ bits. rw bits
       (mathlib.Core.List.Permᴰ.trans (rw bits at q)
-      (mathlib.Core.List.Permᴰ.trans (mathlib.Core.List.Permᴰ.append_left (nonzero later) (one_more s.intervals e)) (mathlib.Core.List.Permᴰ.middle e (nonzero later) s.intervals))))
+      (mathlib.Core.List.Permᴰ.trans (mathlib.Core.List.Permᴰ.append_left (nonzero later) (one_more s.intervals e))
+      (mathlib.Core.List.Permᴰ.middle e (nonzero later) s.intervals))))
       (λ none. rw none (rw none at q))
       (told (ltb 0 e.size))
   step (Refused why) is p = rw (refused-keeps s e 0 why is) at p

@@ -6,7 +6,10 @@ use Rattle.print_text.specs.Lines.{spaced}
 use Rattle.print_text.proofs.line_end.Given as goal
 
 abbrev pub invariant-loop-i : goal.invariant-loop-i
-invariant-loop-i l = (l.i ≤ length l.numbers) × (l.at + (l.word + length (spaced l.numbers) + 1) ≡ l.end + length (spaced (drop l.i l.numbers)) + 1) × (l.end ≤ l.size)
+invariant-loop-i l =
+    (l.i ≤ length l.numbers)
+    × (l.at + (l.word + length (spaced l.numbers) + 1) ≡ l.end + length (spaced (drop l.i l.numbers)) + 1)
+    × (l.end ≤ l.size)
 
 abbrev pub decreases-loop-i : goal.decreases-loop-i
 decreases-loop-i l = length l.numbers - l.i
