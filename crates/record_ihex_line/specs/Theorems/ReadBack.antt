@@ -1,5 +1,5 @@
 -- Theorems about what ReadBack defines.
-use Rattle.std.specs.Prelude.{◌≡◌, true, ℕ, ◌+◌, ◌*◌, ◌/◌, ◌%◌, ◌<◌, get_or}
+use Rattle.std.specs.Prelude.{◌≡◌, true, ℕ, ◌+◌, ◌*◌, ◌/◌, ◌%◌, ◌<◌, eqb, drop, get_or}
 use Rattle.std.proofs.Common.{sym, ap₂, ◌∙◌, arith, length-append}
 use Rattle.std.proofs.Math.Path.{ap}
 use mathlib.Core.List.{List, [], ◌∷◌, ◌++◌}
@@ -7,7 +7,7 @@ use borrow.Author.Tests.{eq-eqb, ne_eqb}
 use Rattle.std.proofs.Math.ListN.{length}
 use Rattle.std.proofs.Math.Seq.{take-append_seam, take_all}
 use Rattle.bitvec.specs.Bits.{Bytes}
-use Rattle.record_lines.specs.Digits.{bytes_text, pair_at, bytes_at}
+use Rattle.record_lines.specs.Digits.{all_digits, bytes_text, pair_at, bytes_at}
 use Rattle.record_lines.specs.Laws.DigitLaws.{length-bytes_text, bytes_text-append}
 use Rattle.record_lines.specs.Laws.Spelled.{bytes-none, bytes-cons, bytes-append, digits-written, pair-behind, bytes-behind}
 use Rattle.record_lines.specs.Uppers.{Uppers, colon}
@@ -73,15 +73,20 @@ module _ (type field : ℕ) (bytes : List ℕ) (ht : type < 256) (hf : field < 6
       ∙ take_all (5 + length bytes) whole (omega (arith, long-whole)))
       ∙ ap (λ (k : ℕ). k % 256) (omega (arith, sum-append bytes check)) ∙ zero-sum (sum_of (record_bytes type field bytes))
 
+  -- what makes it good, part by part: as long as its count says, digits, and a sum that is zero
+  good-parts : (eqb (length line) (11 + 2 * count_of line) ≡ true)
+      × (all_digits (drop 1 line) ≡ true)
+      × (eqb (sum_of (bytes_at line 1 (5 + count_of line)) % 256) 0 ≡ true)
+  good-parts = (
+    eq-eqb (length line) (11 + 2 * count_of line) (omega (arith, length-bytes_text whole, long-whole, count-back)),
+    digits-written whole whole-bytes,
+    eq-eqb (sum_of (bytes_at line 1 (5 + count_of line)) % 256) 0 sum_back,
+  )
+
   -- Every record that is written is good by the reader's own rule.
   pub written-record-good : good_line line ≡ true
   unfolding good_line
-  written-record-good =
-      rw (
-        eq-eqb (length line) (11 + 2 * count_of line) (omega (arith, length-bytes_text whole, long-whole, count-back)),
-        digits-written whole whole-bytes,
-        eq-eqb (sum_of (bytes_at line 1 (5 + count_of line)) % 256) 0 sum_back,
-      )
+  written-record-good = rw (good-parts.0, good-parts.1, good-parts.2)
 
   -- "upper case": every character of its line
   pub written-record-upper : Uppers line
@@ -89,19 +94,21 @@ module _ (type field : ℕ) (bytes : List ℕ) (ht : type < 256) (hf : field < 6
 
   -- A data record says its bytes, from its address field on over the upper half in force.
   pub data-record-says : (upper : ℕ) → type ≡ 0 → hex_item upper line ≡ gives (65536 * upper + field) bytes upper
-  unfolding hex_item by_type
+  unfolding good_line hex_item by_type
   data-record-says upper z =
-      rw (written-record-good, eq-eqb (type_of line) 0 (type-back ∙ z))
+      rw (good-parts.0, good-parts.1, good-parts.2, eq-eqb (type_of line) 0 (type-back ∙ z))
       (ap₂ (λ (u : ℕ) (l : List ℕ). gives (65536 * upper + u) l upper) field_back bytes_back)
 
 -- A type 04 record says its upper half, and the end record that it ends.
 pub end-record-says : (upper : ℕ) → hex_item upper (line_of 1 0 []) ≡ ends
-unfolding hex_item by_type
+unfolding good_line hex_item by_type
 end-record-says upper =
-    let good = written-record-good 1 0 [] (omega arith) (omega arith) bytes-none (omega arith) in
+    let good = good-parts 1 0 [] (omega arith) (omega arith) bytes-none (omega arith) in
     let t = type-back 1 0 [] (omega arith) (omega arith) bytes-none (omega arith) in
     rw (
-      good,
+      good.0,
+      good.1,
+      good.2,
       ne_eqb (type_of (line_of 1 0 [])) 0 (λ e. omega (arith, t)),
       eq-eqb (field_of (line_of 1 0 [])) 0 (field_back 1 0 [] (omega arith) (omega arith) bytes-none (omega arith)),
       eq-eqb (type_of (line_of 1 0 [])) 1 t,
@@ -115,16 +122,18 @@ upper-record-word upper h =
     ap₂ (λ (u v : ℕ). 256 * u + v) (back 4 (omega arith)) (back 5 (omega arith)) ∙ omega arith
 
 pub upper-record-says : (in_force upper : ℕ) → upper < 65536 → hex_item in_force (line_of 4 0 (upper / 256 ∷ upper % 256 ∷ [])) ≡ passes upper
-unfolding hex_item by_type
+unfolding good_line hex_item by_type
 upper-record-says in_force upper h =
     let two = upper / 256 ∷ upper % 256 ∷ [] in
     let line = line_of 4 0 two in
     let small : Bytes two = upper-bytes upper h in
-    let good = written-record-good 4 0 two (omega arith) (omega arith) small (omega arith) in
+    let good = good-parts 4 0 two (omega arith) (omega arith) small (omega arith) in
     let t = type-back 4 0 two (omega arith) (omega arith) small (omega arith) in
     let n = count-back 4 0 two (omega arith) (omega arith) small (omega arith) in
     rw (
-      good,
+      good.0,
+      good.1,
+      good.2,
       ne_eqb (type_of line) 0 (λ e. omega (arith, t)),
       eq-eqb (field_of line) 0 (field_back 4 0 two (omega arith) (omega arith) small (omega arith)),
       ne_eqb (type_of line) 1 (λ e. omega (arith, t)),
