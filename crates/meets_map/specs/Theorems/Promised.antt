@@ -24,8 +24,8 @@ use Rattle.meets_map.specs.Theorems.Meets.{Contract, lent_so, map-meets}
 -- ---- there is one for everything that can be given and lent
 
 placed-told : (walked : ℕ) (q : Placed) → told_verdict (traced_by walked q).verdict ≡ placed_told q
-placed-told walked (holds s) = refl
-placed-told walked (stops why) = refl
+placed-told n (holds s) = refl
+placed-told n (stops why) = refl
 
 settled-told : (b : Input) (s : Settled)
     → told_verdict (settled_reach (closed_of b) (visits_of b (passes_of b)) (length b.lists.kinds) s).verdict ≡ settled_told b s

@@ -44,7 +44,7 @@ module _ (g : Given) (old : Lent) where
 
   built-ran : {r k n : ℕ} {y : Outcome} → 1 ≤ n → Built g old r k n y → Ran y
   built-ran h (b.refused f) = h
-  built-ran {y = y} h (b.placed clear l c t) = tries-all Ran (λ x. h) y (tries-all Ran (λ x. h) y (accepts-ran h)) t
+  built-ran {y = y} h (b.placed free l c t) = tries-all Ran (λ x. h) y (tries-all Ran (λ x. h) y (accepts-ran h)) t
 
   laid-ran : {y : Outcome} → Laid g old y → Ran y
   laid-ran (b.stops h l go f s) = h
