@@ -42,7 +42,7 @@ class Names:
         params = [safe(name) for name in re.findall(r'(?:^|,)\s*(?:mut )?(\w+)\s*:', listed)]
         start = r'\n' if rest.split('\n', 1)[0].rstrip().endswith('{') else rf'^{m[2]}\{{\n'
         body = re.search(rf'{start}(.*?)\n{m[2]}\}}', rest, re.M | re.S)
-        contract = re.search(r'\bensures \{ λ \w+\. ⌜\s*(\w*Says?)\b', rest[:body.start(1)] if body else '')
+        contract = re.search(r'\bensures(?: \w+)? \{\s*(\w*Says?)\b', rest[:body.start(1)] if body else '')
         comment = ' '.join(line.strip()[2:].strip() for line in m[1].splitlines())
         return params, list(bound(re.sub(r'//[^\n]*', '', body[1]))) if body else [], comment, contract[1] if contract else ''
 
