@@ -145,7 +145,8 @@ module _ (test : ℕ → Bool) where
       ap (λ (m : ℕ). runs_from test at m inside) (suc-add k n)
       ∙ ap (λ (m : ℕ). begun (test at) inside (block at m) ++ runs_from test (suc at) (k + n) (test at)) long
       ∙ ap (λ (l : List Block). begun (test at) inside (block at (length_from test at (suc k))) ++ l) (cut k n (suc at) (test at) there)
-      ∙ ap (λ (m : ℕ). begun (test at) inside (block at (length_from test at (suc k))) ++ (runs_from test (suc at) k (test at) ++ runs_from test m n false)) place
+      ∙ ap (λ (m : ℕ). begun (test at) inside
+      (block at (length_from test at (suc k))) ++ (runs_from test (suc at) k (test at) ++ runs_from test m n false)) place
       ∙ sym (append_assoc (begun (test at) inside (block at (length_from test at (suc k)))) (runs_from test (suc at) k (test at))
       (runs_from test (at + suc k) n false))
 

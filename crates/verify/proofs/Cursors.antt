@@ -26,7 +26,8 @@ leb-eighth o s bytes e f =
 -- ---- one turn of the check of all
 
 module _ (bytes : ℕ) (os ss : List ℕ) (i : ℕ) (h : i < length os) (p : length os ≡ length ss) where
-  pub whole-goes : whole bytes (get_or os i 0) (get_or ss i 0) ≡ true → all_whole bytes (drop i os) (drop i ss) ≡ all_whole bytes (drop (i + 1) os) (drop (i + 1) ss)
+  pub whole-goes : whole bytes (get_or os i 0) (get_or ss i 0) ≡ true
+      → all_whole bytes (drop i os) (drop i ss) ≡ all_whole bytes (drop (i + 1) os) (drop (i + 1) ss)
   unfolding all_whole
   whole-goes e = rw (add-one, drop-cons os i 0 h, drop-cons ss i 0 (omega arith), e)
 

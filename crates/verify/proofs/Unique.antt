@@ -1,4 +1,5 @@
--- Uniqueness: `compare`'s own contract has one outcome, the answer and all three lent slices, and that of the overlay's `in_order`, which it calls, one answer.
+-- Uniqueness: `compare`'s own contract has one outcome, the answer and all three lent slices, and that of the overlay's
+-- `in_order`, which it calls, one answer.
 -- `Learnt` is what the check reads off a function's `ensures` for its callers, so that a looser clause breaks its line here.
 use mathlib.Core.Path.{◌≡◌}
 use borrow.Fn.Kinds.{Dens, res_t, ended_of}

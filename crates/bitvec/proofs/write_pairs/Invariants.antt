@@ -8,7 +8,8 @@ use Rattle.bitvec.specs.HexDigits.{digit_at}
 use Rattle.bitvec.proofs.write_pairs.Given as goal
 
 abbrev pub invariant-loop-i : goal.invariant-loop-i
-invariant-loop-i l = (l.i ≤ l.count) × (l.count ≡ l.bits / 8) × (length l.hex ≡ length l.initial.hex) × (l.hex ≡ list_of (2 * l.i) (digit_at l.bytes l.bits) ++ drop
+invariant-loop-i l = (l.i ≤ l.count) × (l.count ≡ l.bits / 8) × (length l.hex ≡ length l.initial.hex)
+    × (l.hex ≡ list_of (2 * l.i) (digit_at l.bytes l.bits) ++ drop
     (2 * l.i) l.initial.hex)
 
 abbrev pub decreases-loop-i : goal.decreases-loop-i

@@ -1,6 +1,7 @@
 -- Laws that proofs about Numeral need.
 use Rattle.std.specs.Prelude.{◌≡◌, refl, ℕ, zero, suc, ◌+◌, ◌-◌, ◌*◌, ◌/◌, ◌%◌, ◌^◌, ◌<◌, Bool, true, false}
-use Rattle.std.proofs.Common.{sym, ap, ap₂, ◌∙◌, add-zero, add-suc, add_comm, add_assoc, add-mul, mul_assoc, mul_comm, pow-suc, div-one, arith, pow-add, shl_lt}
+use Rattle.std.proofs.Common.{sym, ap, ap₂, ◌∙◌, add-zero, add-suc, add_comm, add_assoc, add-mul, mul_assoc, mul_comm, pow-suc}
+use Rattle.std.proofs.Common.{div-one, arith, pow-add, shl_lt}
 use Rattle.std.proofs.Math.Nat.{pow-zero, div-div-eq-div-mul}
 use Rattle.prelude.specs.Pick.{pick}
 use Rattle.std.proofs.Math.Pow.{high, low}

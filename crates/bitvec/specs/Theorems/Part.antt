@@ -68,11 +68,14 @@ part-told image offset size =
     told-by image offset size (λ p. rw (lt-ltb 0 size p.some, p.starts, p.ends) (le-leb (offset + size) (8 * length image) p.inside))
 
 -- 16 is given exactly when a part of an image is empty, outside it, or not on byte edges.
-pub sixteen-exactly : (image : List ℕ) (offset size : ℕ) → (told_number (told_verdict (part_verdict image offset size)) ≡ 16) ↔ Unfit (length image) offset size
+pub sixteen-exactly : (image : List ℕ) (offset size : ℕ)
+    → (told_number (told_verdict (part_verdict image offset size)) ≡ 16) ↔ Unfit (length image) offset size
 unfolding is_part
-sixteen-exactly image offset size =
-    (from (told-by image offset size
-    (λ p. rw (lt-ltb 0 size p.some, p.starts, p.ends) (le-leb (offset + size) (8 * length image) p.inside)) refl), λ u. of u)
+sixteen-exactly image offset size = (
+  from (told-by image offset size
+      (λ p. rw (lt-ltb 0 size p.some, p.starts, p.ends) (le-leb (offset + size) (8 * length image) p.inside)) refl),
+  λ u. of u,
+)
   where
     from : {t : Told Nothing} → PartTold (length image) offset size t → told_number t ≡ 16 → Unfit (length image) offset size
     from (fit p) e = absurd (omega arith)

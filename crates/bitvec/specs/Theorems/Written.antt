@@ -33,7 +33,8 @@ module _ (image : List ℕ) (position : ℕ) (values : List ℕ) (start size : �
   unfolding written
   bit_at-written k h = bit_at-of_bits (length image) (written_bit image position values start size) written_bit-lt k h
 
-  pub written_bit-inside : (k : ℕ) → position ≤ k → k < position + size → written_bit image position values start size k ≡ bit_at values (start + (k - position))
+  pub written_bit-inside : (k : ℕ) → position ≤ k → k < position + size
+      → written_bit image position values start size k ≡ bit_at values (start + (k - position))
   unfolding written_bit
   written_bit-inside k h l = rw (covers-inside position size k h l)
 

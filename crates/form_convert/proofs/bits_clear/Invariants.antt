@@ -7,7 +7,8 @@ use Rattle.form_rewrite.specs.Turning.{all_of, bit_clear}
 use Rattle.form_convert.proofs.bits_clear.Given as goal
 
 abbrev pub invariant-loop-i : goal.invariant-loop-i
-invariant-loop-i l = (l.i ≤ l.count) × (all_of bit_clear (column (part l.file 24) 27 7 l.count) ≡ all_of bit_clear (column (part l.file 24) 27 (7 + l.i * 27) (l.count - l.i)))
+invariant-loop-i l = (l.i ≤ l.count)
+    × (all_of bit_clear (column (part l.file 24) 27 7 l.count) ≡ all_of bit_clear (column (part l.file 24) 27 (7 + l.i * 27) (l.count - l.i)))
 
 abbrev pub decreases-loop-i : goal.decreases-loop-i
 decreases-loop-i l = l.count - l.i

@@ -9,7 +9,8 @@ use Rattle.form_convert.proofs.first_stray.Given as goal
 
 abbrev pub invariant-loop-i : goal.invariant-loop-i
 invariant-loop-i l = (l.i ≤ l.count)
-    × (first_where (strays l.bank) (column (part l.file 5) 8 l.from l.count) ≡ l.i + first_where (strays l.bank) (column (part l.file 5) 8 (l.from + l.i * 8) (l.count - l.i)))
+    × (first_where (strays l.bank) (column (part l.file 5) 8 l.from l.count)
+    ≡ l.i + first_where (strays l.bank) (column (part l.file 5) 8 (l.from + l.i * 8) (l.count - l.i)))
 
 abbrev pub decreases-loop-i : goal.decreases-loop-i
 decreases-loop-i l = l.count - l.i

@@ -15,7 +15,8 @@ use Rattle.form_convert.specs.Told.{ConvertTold, TellsForm1, TellsForm2, told_co
 -- What the contract of a call tells, of every answer that meets it.
 pub converts-told : (from to : Kind) (turn : Contents → Contents) (drops : Contents → Bool) {file old new : List ℕ} {answer : Conversion}
     → Converts from to turn drops file old answer new
-    → ConvertTold to (form_in from file) (contents_in from file) (turn (contents_in from file)) (drops (contents_in from file)) (length old) (told_conversion answer)
+    → ConvertTold to (form_in from file) (contents_in from file)
+    (turn (contents_in from file)) (drops (contents_in from file)) (length old) (told_conversion answer)
 converts-told from to turn drops {file} {old} {new} {answer} p =
     let c = contents_in from file in
     subst (λ (r : Conversion). ConvertTold to (form_in from file) c (turn c) (drops c) (length old) (told_conversion r)) (sym p.is)

@@ -23,7 +23,8 @@ returns-then-shape-eq1 c =
 pub write_lengthened-requires-clause-file_in_bounds : goal.write_lengthened-requires-clause-file_in_bounds
 write_lengthened-requires-clause-file_in_bounds c =
     let a = c.args in
-    let e = to-lengthened a.file.now a.shape c.requires.read c.if-shape-eq1.false in subst (λ (d : Contents). length (written form2 d) ≤ length a.out.now) e c.requires.file_in_bounds
+    let e = to-lengthened a.file.now a.shape c.requires.read c.if-shape-eq1.false in
+    subst (λ (d : Contents). length (written form2 d) ≤ length a.out.now) e c.requires.file_in_bounds
 
 pub returns : goal.returns
 returns c =

@@ -1,6 +1,7 @@
 -- Laws of a part of a file: its length, its front, what is behind that, its bytes.
 use Rattle.std.specs.Prelude.{List, [], ◌++◌, ◌≡◌, ℕ, ◌+◌, ◌≤◌, ◌<◌, length, get_or, take, drop}
-use Rattle.std.proofs.Common.{append-nil, sym, ap, ◌∙◌, arith, length-drop, drop_of_length-le, length-take-le, get_or-take, get_or-drop, drop-drop, drop_at, take-add, take_all, take-take}
+use Rattle.std.proofs.Common.{append-nil, sym, ap, ◌∙◌, arith, length-drop, drop_of_length-le, length-take-le, get_or-take, get_or-drop}
+use Rattle.std.proofs.Common.{drop-drop, drop_at, take-add, take_all, take-take}
 use Rattle.std.proofs.Math.Decide.{dec_le}
 use Rattle.std.proofs.Math.Seq.{take-nil}
 use Rattle.form_fields.specs.Words.{byte}

@@ -26,10 +26,13 @@ row floor (o ∷ os) (s ∷ ss) e =
     record {
       paired = rw r.paired;
       some = λ i. elim i as (λ i. i < length (o ∷ os) → 0 < get_or (s ∷ ss) i 0) [ zero ↦ λ h. nonempty | suc j ↦ λ h. r.some j (omega arith) ];
-      above = λ i. elim i as (λ i. i < length (o ∷ os) → floor ≤ get_or (o ∷ os) i 0) [ zero ↦ λ h. starts | suc j ↦ λ h. omega (arith, r.above j (omega arith)) ];
+      above = λ i. elim i as (λ i. i < length (o ∷ os) → floor ≤ get_or (o ∷ os) i 0)
+          [ zero ↦ λ h. starts | suc j ↦ λ h. omega (arith, r.above j (omega arith)) ];
       behind = λ i j. elim i as (λ i. i < j → j < length (o ∷ os) → get_or (o ∷ os) i 0 + get_or (s ∷ ss) i 0 ≤ get_or (o ∷ os) j 0) [
-        | zero ↦ elim j as (λ j. 0 < j → j < length (o ∷ os) → o + s ≤ get_or (o ∷ os) j 0) [ zero ↦ λ l h. absurd (omega arith) | suc m ↦ λ l h. r.above m (omega arith) ]
-        | suc n ↦ elim j as (λ j. suc n < j → j < length (o ∷ os) → get_or os n 0 + get_or ss n 0 ≤ get_or (o ∷ os) j 0) [ zero ↦ λ l h. absurd (omega arith) | suc m ↦ λ l h. r.behind n m (omega arith) (omega arith) ]
+        | zero ↦ elim j as (λ j. 0 < j → j < length (o ∷ os) → o + s ≤ get_or (o ∷ os) j 0)
+            [ zero ↦ λ l h. absurd (omega arith) | suc m ↦ λ l h. r.above m (omega arith) ]
+        | suc n ↦ elim j as (λ j. suc n < j → j < length (o ∷ os) → get_or os n 0 + get_or ss n 0 ≤ get_or (o ∷ os) j 0)
+            [ zero ↦ λ l h. absurd (omega arith) | suc m ↦ λ l h. r.behind n m (omega arith) (omega arith) ]
       ];
     }
 

@@ -9,5 +9,6 @@ returns c =
     let runs : List Run =
     runs_of (readback c.args.image.now c.args.offsets.now c.args.sizes.now c.args.bytes.now c.args.given_offsets.now
     c.args.given_sizes.now) in
-    enough runs c.args.firsts.now c.args.counts.now c.args.kinds.now c.walk-count.ensures c.if-firsts-count.false c.if-counts-count.false c.if-kinds-count.false
+    enough runs c.args.firsts.now c.args.counts.now c.args.kinds.now c.walk-count.ensures c.if-firsts-count.false
+    c.if-counts-count.false c.if-kinds-count.false
     c.walk.ensures

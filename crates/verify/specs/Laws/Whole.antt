@@ -25,7 +25,8 @@ each-whole bytes (o ∷ os) (s ∷ ss) p e (suc i) h =
 pub sound-from : (bytes : ℕ) (os ss : List ℕ) → in_order 0 os ss ≡ true → all_whole bytes os ss ≡ true → Sound os ss
 sound-from bytes os ss e f =
     let r = row 0 os ss e in
-    let fit : (i : ℕ) → i < length os → (get_or os i 0 % 8 ≡ 0) × (get_or ss i 0 % 8 ≡ 0) × (get_or os i 0 + get_or ss i 0 ≤ 8 * bytes) = λ i h. whole-means bytes
+    let fit : (i : ℕ) → i < length os → (get_or os i 0 % 8 ≡ 0) × (get_or ss i 0 % 8 ≡ 0) × (get_or os i 0 + get_or ss i 0 ≤ 8 * bytes) =
+    λ i h. whole-means bytes
     (get_or os i 0) (get_or ss i 0) (each-whole bytes os ss r.paired f i h) in
     record {
       paired = r.paired;
