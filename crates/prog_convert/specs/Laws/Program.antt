@@ -1,7 +1,7 @@
 -- Laws of what is handed on: a converted file is as long as the answer says, and stands in the front of the buffer.
-use Rattle.std.specs.Prelude.{◌≡◌, Bool, true, false, List, ◌++◌, ℕ, ◌+◌, ◌≤◌, min, max, ltb, length, take, drop}
+use Rattle.std.specs.Prelude.{◌≡◌, Bool, true, false, List, ℕ, ◌+◌, ◌≤◌, min, max, ltb, length, take, drop}
 use Rattle.std.proofs.Math.Path.{refl}
-use Rattle.std.proofs.Common.{sym, ap, subst, ◌∙◌, arith, length-append, length-drop, take_at}
+use Rattle.std.proofs.Common.{sym, ap, subst, ◌∙◌, arith, length-append, take_at}
 use Rattle.std.proofs.Math.Seq.{length-sets}
 use Rattle.std.proofs.lemmas.List.Edits.{sets-eq}
 use Rattle.prelude.specs.Limits.{max_nodes, max_rows}
@@ -15,14 +15,13 @@ use Rattle.form_fields.specs.Whole.{contents_in}
 use Rattle.form_fields.specs.declared.Form.{Form}
 use Rattle.form_fields.specs.declared.Form.TheVariants.{Sound, Broken}
 use Rattle.form_fields.specs.declared.Kind.{Kind}
-use Rattle.form_convert.specs.Convert.{stray, answer_of, answer_by, out_after, Converts}
+use Rattle.form_convert.specs.Convert.{stray, answer_of, answer_by, Converts}
 use Rattle.form_convert.specs.declared.Conversion.{Conversion}
 use Rattle.form_convert.specs.declared.Conversion.TheVariants.{Converted, Refused}
 use Rattle.print_text.specs.Puts.{Writes}
 use Rattle.prog_args.specs.Text.{Shows}
 use Rattle.meets_texts.specs.Printed.{file_room, printed, way_text}
 use Rattle.prog_convert.specs.Program.{Handed}
-use Rattle.prog_convert.specs.Room.{Held}
 use Rattle.prog_convert.specs.Theorems.Room.{conversion-held}
 
 -- an answer that is given says this size
