@@ -64,7 +64,6 @@ fn write(
 ) -> usize
     ensures { Shows (BenchSays load all at count old.now new.now) result out.new }
 {
-    let room: &[u8] = &*overlay;
     let end = print_bench::put_bench(
         all,
         at,
