@@ -8,7 +8,7 @@ use Rattle.record_write.specs.Text.{text_of}
 use Rattle.record_write.specs.declared.Written.{Written}
 use Rattle.record_write.specs.Hex.{WritesHex}
 use Rattle.record_write.specs.Srec.{WritesSrec}
-use Rattle.thm_record_room.specs.Theorems.Room.{station-files-fit, turned-files-fit}
+use Rattle.thm_record_room.specs.Theorems.Room.{records-length}
 use Rattle.thm_record_room.specs.Calls.{NotShort}
 use Rattle.thm_record_room.specs.Laws.Calls.{blocks-in, hex-fits, srec-fits}
 
@@ -20,11 +20,11 @@ module _ (image offsets sizes : List ℕ) (load : ℕ) (old : List ℕ) (good : 
 
   at-station : length image ≤ 16384 → 131072 ≤ length old → Fit
   at-station h room format p q =
-      omega (arith, station-files-fit format load image (blocks_in offsets sizes) good p q h (omega (arith, blocks-in offsets sizes)))
+      omega (arith, records-length format load image (blocks_in offsets sizes) good p q, blocks-in offsets sizes)
 
   at-turning : length image ≤ 1048576 → 3145728 ≤ length old → Fit
   at-turning h room format p q =
-      omega (arith, turned-files-fit format load image (blocks_in offsets sizes) good p q h (omega (arith, blocks-in offsets sizes)))
+      omega (arith, records-length format load image (blocks_in offsets sizes) good p q, blocks-in offsets sizes)
 
   module _ {r : Written} {new : List ℕ} where
     pub station-hex : length image ≤ 16384 → 131072 ≤ length old → WritesHex image offsets sizes load old r new → NotShort r
