@@ -1,7 +1,7 @@
 #!/usr/bin/env python3
 """Brings this repository's own definitions and lemmas to the spelling of words of today's Rattle: snake case for all but types, facts and modules.
 
-usage: tools/port_names.py [--map] FOLDER
+    tools/port_names.py [--map] FOLDER
 
 It was run once, on what the kit's port.py had made of the repository (docs/PORT.md). A name with a capital inside, as `bankFault`, becomes
 `bank_fault`. Where a lemma has that name already, the lemma gets `_lem` behind it, as the kit's own do. Names of Rust's own (functions, parameters,
@@ -10,6 +10,9 @@ fields, types) have no such capitals and stay. --map prints each name with its n
 import os
 import re
 import sys
+sys.dont_write_bytecode = True
+sys.path.insert(0, os.path.dirname(os.path.realpath(__file__)))
+from antt import run  # noqa: E402
 
 TOKEN = re.compile(r"(?<![\w'\-₀-₉])[^\W\d][\w'\-₀-₉]*")
 CAPITAL = re.compile(r"^[a-z][\w']*?[a-z0-9₀-₉'][A-Z]")
@@ -98,21 +101,26 @@ def turned(text, new, lemmas):
 
 
 def main(words):
-    if len(words) not in (1, 2) or words[:-1] not in ([], ["--map"]):
-        sys.exit(__doc__)
+    if "--help" in words:
+        print(__doc__)
+        return 0
+    if len(words) not in (1, 2) or words[:-1] not in ([], ["--map"]) or words[-1].startswith("-") or not os.path.isdir(os.path.join(words[-1], "crates")):
+        print("tools/port_names.py: --help says how to call it", file=sys.stderr)
+        return 2
     root = words[-1]
     new, lemmas = renamed(root)
     if len(words) == 2:
         print("\n".join(f"{a} {b}" for a, b in new.items()))
         print("\n".join(f"{a} {b} in {os.path.relpath(path, root)}" for path in lemmas for a, b in lemmas[path].items()))
-        return
+        return 0
     for path in texts(root, (".antt", ".rt", ".edit")):
         old = read(path)
         text = turned(old, new, lemmas.get(path, {}))
         if text != old:
             with open(path, "w", encoding="utf-8", newline="") as file:
                 file.write(text)
+    return 0
 
 
 if __name__ == "__main__":
-    main(sys.argv[1:])
+    run(main, "tools/port_names.py")
