@@ -10,19 +10,19 @@ pub returns-then-top-eq-UNKNOWN : goal.returns-then-top-eq-UNKNOWN
 returns-then-top-eq-UNKNOWN c =
     -- the pieces given before the line
     let pieces : List Piece =
-    (trail c.args.format c.args.text.now c.args.n).given in
+        (trail c.args.format c.args.text.now c.args.n).given in
     let a = c.args in
     admit-loose a.look a.load (pieces) a.line.kind a.line.address a.line.count a.high a.free.edge
-    c.if-line-ne-DATA.false c.if-line-eq0.false c.if-first-load.false c.if-end-gt4294967296.false c.greater.result c.greater.ensures
+    c.if-line-ne-DATA.false c.if-line-eq0.false (omega arith) c.if-end-gt4294967296.false c.greater.result c.greater.ensures
     (λ z. ((c.room_known-top.ensures.0 z).1 (omega (arith, c.if-top-eq0.false))).0)
 
 pub returns : goal.returns
 returns c =
     -- the pieces given before the line
     let pieces : List Piece =
-    (trail c.args.format c.args.text.now c.args.n).given in
+        (trail c.args.format c.args.text.now c.args.n).given in
     let a = c.args in
     admit-fine a.look a.load (pieces) a.line.kind a.line.address a.line.count a.high a.free.edge
-    c.if-line-ne-DATA.false c.if-line-eq0.false c.if-first-load.false c.if-end-gt4294967296.false c.greater-2.result c.room_known-top.result
+    c.if-line-ne-DATA.false c.if-line-eq0.false (omega arith) c.if-end-gt4294967296.false c.greater-2.result c.room_known-top.result
     c.greater-2.ensures
     ((c.room_known-top.ensures.1 c.if-top-eq-UNKNOWN.false).1 (omega (arith, c.if-top-eq0.false)))
