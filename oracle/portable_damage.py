@@ -1,13 +1,13 @@
 #!/usr/bin/env python3
 """Damages to the printer of the portable C (tools/printer), one at a time: is each seen?
 
-    portable_damage.py [--calls N] [--driver FOLDER] [--term FILE] [NAME ..]
+    portable_damage.py --term FILE [--calls N] [--driver FOLDER] [NAME ..]
 
 The damaged printer prints the term of the exported calls, and a C compiler compiles that with the driver over all calls (portable/driver.h). A damage is
 seen where the printer refuses, where the compiler refuses or warns, or where the driver ends or answers otherwise than over portable/denkumari.c, which is
 held to the proved archive (portable/matrix). One that prints what means the same is listed here with the reason. Prints a line for each, and how many were
-seen; ends with 1 where one is neither seen nor listed. NAME is a damage by its number, all of them unless said; FILE has what `rt mir` prints, which is asked
-for otherwise, and FOLDER has the driver (default: portable)."""
+seen; ends with 1 where one is neither seen nor listed. NAME is a damage by its number, all of them unless said; FILE has what `rt mir` of
+the kit before this one (portable/PRINTED) printed of the library: today's kit prints no term. FOLDER has the driver (default: portable)."""
 
 import shutil
 import subprocess
@@ -173,11 +173,9 @@ def main():
             parser.error(f"there is no damage {name}")
     missed = seen = same = 0
     with manners.room() as folder:
-        term = asked.term
-        if term is None:
-            term = folder / "denkumari.mir"
-            term.write_bytes(subprocess.run(["rt", "mir", manners.crates()["library"]], cwd=ROOT, stdout=subprocess.PIPE, check=True).stdout)
-        room = Room(folder, term.resolve(), asked.driver.resolve(), asked.calls)
+        if asked.term is None:
+            raise manners.Stop("--term is wanted: the kit that KIT names prints no term")
+        room = Room(folder, asked.term.resolve(), asked.driver.resolve(), asked.calls)
         good = room.printed()
         if good is None:
             raise manners.Stop("the printer refuses without a damage")
