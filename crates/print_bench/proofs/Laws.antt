@@ -13,10 +13,9 @@ use lib.Seq.{sets, sets-eq, length-sets, take_all, drop-drop, drop-cons, length-
 use Rattle.prelude.specs.Laws.Bools.{unlike}
 use Rattle.prog_args.specs.Counts.{IsPrefixLen}
 use Rattle.prelude.specs.Laws.Pick.{pick_true, pick-false}
-use Rattle.prelude.specs.Pick.{pick}
 use Rattle.prelude.specs.declared.Refusal.{Refusal}
 use Rattle.prelude.specs.declared.Refusal.TheVariants.{BadPart}
-use Rattle.bitvec.specs.HexDigits.{digit_count, hex_of, hex_after, Prints}
+use Rattle.bitvec.specs.HexDigits.{digit_count, hex_of, Prints}
 use Rattle.bitvec.specs.Theorems.HexDigits.{length-hex_of}
 use Rattle.bitvec.specs.declared.Hex.{Hex}
 use Rattle.bitvec.specs.declared.Hex.TheVariants.{Digits, Refused}

@@ -10,7 +10,7 @@ use lib.Dec.{leb}
 use lib.ListN.{length, take, drop, get_or, length-append, length-map, get_or-map}
 use lib.Seq.{take_at}
 use Rattle.prelude.specs.Laws.Bools.{unlike}
-use Rattle.prelude.specs.Laws.Pick.{pick_true, pick-false}
+use Rattle.prelude.specs.Laws.Pick.{pick_true}
 use Rattle.prelude.specs.Pick.{pick}
 use Rattle.prelude.specs.declared.Refusal.{Refusal}
 use Rattle.prelude.specs.declared.Refusal.TheVariants.{Malformed, TooShort}
@@ -26,10 +26,10 @@ use Rattle.overlay.specs.declared.Listed.{Listed}
 use Rattle.overlay.specs.declared.Listed.TheVariants.{Runs, Refused}
 use Rattle.print_text.specs.Ascii.{ascii}
 use Rattle.print_text.specs.Laws.Lengths.{spaced-few}
-use Rattle.print_text.specs.Lines.{spaced, line, refusal_text}
+use Rattle.print_text.specs.Lines.{line, refusal_text}
 use Rattle.print_bench.specs.Images.{bytes_room}
 use Rattle.print_bench.specs.Program.{runs_room, run_text, run_lines, alone_text, list_text}
-use Rattle.print_bench.specs.Steps.{InBoth, EachInBoth}
+use Rattle.print_bench.specs.Steps.{EachInBoth}
 use Rattle.print_bench.proofs.Laws.{length_run}
 
 -- ---- the bytes of all runs, and one behind each but the last, are no more than those of the shorter image

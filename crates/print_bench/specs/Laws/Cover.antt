@@ -1,5 +1,5 @@
 -- Laws that Theorems/Runs rests on: a bit that the overlay's blocks cover lies in one of them.
-use Rattle.std.specs.Prelude.{◌≡◌, refl, true, ◌||◌, List, [], ◌∷◌, ℕ, ◌+◌, leb, ltb}
+use Rattle.std.specs.Prelude.{◌≡◌, refl, true, List, [], ◌∷◌, ℕ, ◌+◌, leb, ltb}
 use mathlib.Core.List.Memᴰ
 use Rattle.std.proofs.Common.{leb-true, ltb-true}
 use Rattle.prelude.specs.Laws.Bools.{either, clash, both}

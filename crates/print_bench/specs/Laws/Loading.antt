@@ -6,7 +6,6 @@ use Rattle.std.proofs.lemmas.Bool.{lt-leb}
 use Rattle.std.proofs.lemmas.List.{length-map}
 use Rattle.prelude.specs.Laws.Bools.{unlike}
 use Rattle.prelude.specs.Laws.Pick.{pick_true, pick-false}
-use Rattle.prelude.specs.Pick.{pick}
 use Rattle.prelude.specs.declared.Refusal.{Refusal}
 use Rattle.prelude.specs.declared.Refusal.TheVariants.{Malformed}
 use Rattle.blocks.specs.Outcome.{origins, sizes, over}
@@ -19,7 +18,7 @@ use Rattle.record_scan.specs.Outcome.{fault_of}
 use Rattle.record_scan.specs.Reading.{Read, sound, faulty, read_text}
 use Rattle.record_scan.specs.declared.Fault.TheVariants.{Good, At}
 use Rattle.record_read.specs.Given.{filled}
-use Rattle.record_read.specs.Outcome.{Lent, lent, answer_of, taken, Reads}
+use Rattle.record_read.specs.Outcome.{Lent, answer_of, Reads}
 use Rattle.record_read.specs.Runs.{reach, blocks_given}
 use Rattle.record_read.specs.Laws.Found.{same-refusal, no_room, Held, held}
 use Rattle.record_read.specs.Theorems.GivenLaws.{filled-long}

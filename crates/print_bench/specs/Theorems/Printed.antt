@@ -1,6 +1,6 @@
 -- What the program prints, said of its definition: a refused file's lines, and of two good files the answer over their images.
-use Rattle.std.specs.Prelude.{◌≡◌, refl, ℕ, ◌+◌, ◌-◌, ◌≤◌, length, take, drop}
-use Rattle.std.proofs.Common.{sym, ◌∙◌, le-leb, le-ltb, ne_eqb}
+use Rattle.std.specs.Prelude.{◌≡◌, ℕ, ◌+◌, ◌-◌, ◌≤◌, length, take, drop}
+use Rattle.std.proofs.Common.{◌∙◌, le-leb, le-ltb, ne_eqb}
 use Rattle.std.proofs.Math.Path.{ap}
 use mathlib.Core.List.{List, [], ◌∷◌, ◌++◌}
 use Rattle.prelude.specs.Laws.Pick.{pick_true, pick-false}
@@ -16,7 +16,7 @@ use Rattle.record_lines.specs.Pieces.{Piece}
 use Rattle.record_read.specs.Given.{filled}
 use Rattle.record_read.specs.Runs.{reach, blocks_given}
 use Rattle.print_bench.specs.declared.Asked.{Asked}
-use Rattle.print_bench.specs.Images.{longest, bytes_room, blocks_room, given, unread, read_file, file_of, fault_text, fault_in, free_from}
+use Rattle.print_bench.specs.Images.{longest, bytes_room, blocks_room, given, read_file, file_of, fault_text, fault_in, free_from}
 use Rattle.print_bench.specs.Program.{bytes_text, ToldBy, source_text, range_text, answer_text, by_released, released_text, by_overlay, bench_text}
 use Rattle.print_bench.specs.Theorems.Runs.{images}
 
