@@ -14,9 +14,10 @@ use Rattle.prelude.specs.declared.Offset.TheVariants.{At}
 use Rattle.prelude.specs.declared.Verdict.{Verdict}
 use Rattle.prelude.specs.Limits.{max_nodes}
 use Rattle.prelude.specs.Laws.Pick.{pick_true}
-use Rattle.sort.specs.Laws.Agree.{all-at, sorted-map}
+use Rattle.sort.specs.Laws.Agree.{all-at}
+use Rattle.sort.proofs.Agree.{sorted-map}
 use Rattle.sort.specs.Numbers.{numbers_from, numbers_of, key_at, order}
-use Rattle.sort.specs.Theorems.OrderFacts.{order-length, order_below}
+use Rattle.sort.proofs.OrderFacts.{order-length, order_below}
 use Rattle.sort.specs.Outcome as sorting
 use Rattle.sort.specs.Laws.Outcome as sorting-laws
 use Rattle.sort.specs.Sorted.{sorted_by}

@@ -25,7 +25,7 @@ use Rattle.overlap_checker.specs.Interval.{interval, Within}
 use Rattle.overlap_checker.specs.State.{State, answer}
 use Rattle.overlap_checker.specs.Folds.{state_after}
 use Rattle.overlap_checker.specs.Lent.{Lent as Store, Sound, Offers}
-use Rattle.overlap_checker.specs.Theorems.Going.{state-after, sound-after}
+use Rattle.overlap_checker.proofs.Going.{state-after, sound-after}
 use Rattle.build_visits.specs.Items.{Item, is_written, standing, item_at, length_of}
 use Rattle.build_plan.specs.Placing.{is_placed, is_offered, bits_at, offer_at, checked, answered, tried, verdict_seen}
 use Rattle.build_plan.specs.Steps.{Goes}

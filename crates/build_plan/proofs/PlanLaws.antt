@@ -21,8 +21,8 @@ use Rattle.resolver.specs.Walking.{Walks}
 use Rattle.overlap_checker.specs.State.{State, empty_state}
 use Rattle.overlap_checker.specs.Folds.{state_after}
 use Rattle.overlap_checker.specs.Lent.{Lent as Store, lent as store, state_in, Sound}
-use Rattle.overlap_checker.specs.Laws.Going.{state-none}
-use Rattle.overlap_checker.specs.Theorems.Going.{sound_none}
+use Rattle.overlap_checker.proofs.GoingLaws.{state-none}
+use Rattle.overlap_checker.proofs.Going.{sound_none}
 use Rattle.overlap_checker.specs.declared.Offered.{Offered}
 use Rattle.build_visits.specs.declared.Visit.{Visit}
 use Rattle.build_visits.specs.Visits.{visit_at, visits_to, visits}

@@ -1,1 +1,14 @@
+pub mod Demand3
+pub mod Demand3Calls
+pub mod Demand3CallsLaws
+pub mod Demand3Laws
+pub mod Exchange
+pub mod Going
+pub mod GoingLaws
+pub mod Insertion
+pub mod Kept
+pub mod MarkLaws
+pub mod Reordered
+pub mod ReorderedLaws
 pub mod Unique
+pub mod WhatIsStored

@@ -2,10 +2,6 @@ pub mod Answers
 pub mod Ascending
 pub mod Bits
 pub mod Checks
-pub mod Demand3
-pub mod Demand3Calls
 pub mod Faults
-pub mod Going
 pub mod MarkLaws
-pub mod Reordered
 pub mod WhoIsNamed

@@ -7,7 +7,7 @@ use lib.ListN.{length, set, length-set}
 use lib.Seq.{sets}
 use Rattle.print_text.specs.Decimal.{decimal, digit}
 use Rattle.print_text.specs.Laws.Decimal.{decimal-few, length-few}
-use Rattle.print_text.specs.Theorems.Decimal.{decimal-more, decimal-some, length_more}
+use Rattle.print_text.proofs.Decimal.{decimal-more, decimal-some, length_more}
 use Rattle.print_text.specs.Laws.Sets.{sets-before}
 
 -- what is written so far is `tail`, from behind i on

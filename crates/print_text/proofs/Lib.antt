@@ -1,6 +1,7 @@
-pub mod Digits
 pub mod Blocks
+pub mod Decimal
+pub mod Digits
 pub mod Image
 pub mod Spaced
-pub mod Whole
 pub mod Unique
+pub mod Whole

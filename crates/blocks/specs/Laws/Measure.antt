@@ -11,7 +11,7 @@ use Rattle.prelude.specs.declared.Offset.{Offset}
 use Rattle.prelude.specs.declared.Offset.TheVariants.{None, At}
 use Rattle.prelude.specs.Pick.{pick}
 use Rattle.sort.specs.Order.{total}
-use Rattle.sort.specs.Theorems.Order.{sorted-keeps-totals}
+use Rattle.sort.proofs.Order.{sorted-keeps-totals}
 use Rattle.blocks.specs.declared.Block.{Block}
 use Rattle.blocks.specs.Spans.{Span, rank_of, by_offset}
 use Rattle.blocks.specs.Walk.{block, end_of, kept, closed, joined, blocks_from, blocks_of}

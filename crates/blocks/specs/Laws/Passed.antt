@@ -8,10 +8,11 @@ use Rattle.std.proofs.Math.Dec.{leb}
 use Rattle.prelude.specs.declared.Offset.{Offset}
 use Rattle.prelude.specs.declared.Offset.TheVariants.{None, At}
 use Rattle.sort.specs.Agree.{All}
-use Rattle.sort.specs.Laws.Agree.{insert-least, insert-agrees}
-use Rattle.sort.specs.Theorems.Order.{NoneBelow, Ascending, none-below-less, sorted-ascends}
+use Rattle.sort.proofs.Agree.{insert-least, insert-agrees}
+use Rattle.sort.specs.Theorems.Order.{NoneBelow, Ascending, none-below-less}
+use Rattle.sort.proofs.Order.{sorted-ascends}
 use Rattle.sort.specs.Sorted.{insert_by, sorted_by}
-use Rattle.sort.specs.Theorems.Sorted.{insert-before, insert-after}
+use Rattle.sort.proofs.Sorted.{insert-before, insert-after}
 use Rattle.sort.specs.Laws.Sorted.{le-or-lt}
 use Rattle.blocks.specs.declared.Block.{Block}
 use Rattle.blocks.specs.Spans.{Span}

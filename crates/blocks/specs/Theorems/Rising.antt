@@ -1,7 +1,8 @@
 -- Theorems about what Rising defines.
 use mathlib.Core.List.{List, Memᴰ}
 use Rattle.std.specs.Prelude.{◌<◌}
-use Rattle.sort.specs.Theorems.Order.{Ascending, sorted-ascends}
+use Rattle.sort.specs.Theorems.Order.{Ascending}
+use Rattle.sort.proofs.Order.{sorted-ascends}
 use Rattle.blocks.specs.declared.Block.{Block}
 use Rattle.blocks.specs.Spans.{Span, rank_of, by_offset}
 use Rattle.blocks.specs.Walk.{block, blocks_of}

@@ -15,7 +15,7 @@ use Rattle.prelude.specs.Refusals.{number_of, place_of}
 use Rattle.prelude.specs.Told.{gives, refuses}
 use Rattle.prelude.specs.declared.Offset.TheVariants.{At as Placed}
 use Rattle.prelude.specs.declared.Place.TheVariants.{One}
-use Rattle.sort.specs.Laws.Agree.{sorted-map}
+use Rattle.sort.proofs.Agree.{sorted-map}
 use Rattle.sort.specs.Numbers.{numbers_from, numbers_of, key_at, order}
 use Rattle.sort.specs.Sorted.{sorted_by}
 use Rattle.sort.specs.Laws.Sorted.{le-or-lt}

@@ -9,9 +9,9 @@ use native.Mathlib.Omega.{arith}
 use Rattle.std.proofs.Math.ListN.{get_or}
 use Rattle.sort.specs.Laws.Agree.{all-at}
 use Rattle.sort.specs.Numbers.{numbers_from, numbers_of, key_at, order}
-use Rattle.sort.specs.Theorems.OrderFacts.{order_below}
+use Rattle.sort.proofs.OrderFacts.{order_below}
 use Rattle.sort.specs.Sorted.{insert_by, sorted_by}
-use Rattle.sort.specs.Theorems.Sorted.{insert-before, insert-after}
+use Rattle.sort.proofs.Sorted.{insert-before, insert-after}
 use Rattle.sort.specs.Laws.Sorted.{le-or-lt}
 use Rattle.meets.specs.Laws.Lists.{any-default}
 use Rattle.says.specs.Blocks.{Before, ByOffset}

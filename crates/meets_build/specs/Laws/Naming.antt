@@ -14,7 +14,7 @@ use Rattle.bankdef.specs.declared.Bankdef.{Bankdef}
 use Rattle.overlap_checker.specs.Folds.{accepted, state_after}
 use Rattle.overlap_checker.specs.Naming.{LowestAbove, HighestBelow, Named}
 use Rattle.overlap_checker.specs.State.{State, empty_state}
-use Rattle.overlap_checker.specs.Laws.WhatIsStored.{mark-accepted, accepted-mark}
+use Rattle.overlap_checker.proofs.WhatIsStored.{mark-accepted, accepted-mark}
 use Rattle.output.specs.Calls.{Call, visit_in, visits_before, closed_in}
 use Rattle.output.specs.OffersWithin.{OffsetsFit}
 use Rattle.output.specs.Output as out

@@ -26,7 +26,7 @@ use Rattle.prelude.specs.Told.{Told, gives, refuses, Nothing, told_verdict}
 use Rattle.prelude.specs.Theorems.Told.{number-some}
 use Rattle.prelude.specs.declared.Refusal.TheVariants.{DefaultBank, PastBank, NoOutput}
 use Rattle.prelude.specs.declared.Verdict.TheVariants.{Accepted, Refused as TurnedAway}
-use Rattle.overlap_checker.specs.Theorems.Demand3.{only_two, full-place}
+use Rattle.overlap_checker.proofs.Demand3.{only_two, full-place}
 use Rattle.overlap_checker.specs.State.{answer as answer-to}
 use Rattle.overlap_checker.specs.declared.Entry.{Entry}
 use Rattle.output.specs.RefusedAtNode as at-node

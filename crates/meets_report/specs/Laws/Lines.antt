@@ -11,7 +11,7 @@ use Rattle.blocks.specs.Outcome.{origins, sizes}
 use Rattle.print_text.specs.Ascii.{ascii}
 use Rattle.print_text.specs.Decimal.{decimal, digit}
 use Rattle.print_text.specs.Laws.Decimal.{by-tens, decimal-few}
-use Rattle.print_text.specs.Theorems.Decimal.{decimal-more}
+use Rattle.print_text.proofs.Decimal.{decimal-more}
 use Rattle.print_text.specs.Lines.{spaced, line, blocks_text, image_text}
 use Rattle.says.specs.Blocks.{Block as Run}
 use Rattle.says.specs.Lines as says

@@ -31,9 +31,9 @@ use Rattle.overlap_checker.specs.Theorems.Answers.{tries-overlaps, tries-full, t
 use Rattle.overlap_checker.specs.Laws.Checks.{Fine, fine-sound, six-ways, checks-count, checks-mark-count, checks-fault, checks-mark-fault, checks-limits}
 use Rattle.overlap_checker.specs.Laws.Checks.{checks-passes}
 use Rattle.overlap_checker.specs.Laws.Faults.{ascending-proper}
-use Rattle.overlap_checker.specs.Laws.Going.{held-ascends, marks-rest, marks-rise}
+use Rattle.overlap_checker.proofs.GoingLaws.{held-ascends, marks-rest, marks-rise}
 use Rattle.overlap_checker.specs.Theorems.WhoIsNamed.{named-as}
-use Rattle.overlap_checker.specs.Laws.Kept.{offered-put, offered-marked}
+use Rattle.overlap_checker.proofs.Kept.{offered-put, offered-marked}
 use Rattle.c_answers.specs.Stores.{in_figures}
 use Rattle.says.specs.Words.{refused, passed, First}
 use Rattle.says.specs.Store as w

@@ -8,7 +8,7 @@ use Rattle.std.proofs.Math.ListN.{get_or, get_or-append, length-take}
 use Rattle.std.proofs.Math.Seq.{get_or-take, get_or_at}
 use Rattle.overlap_checker.specs.Lent.{put_in}
 use Rattle.overlap_checker.specs.Laws.Shift.{moved}
-use Rattle.overlap_checker.specs.Laws.Kept.{moved-put}
+use Rattle.overlap_checker.proofs.Kept.{moved-put}
 use Rattle.says.specs.Store.{Put}
 
 -- past the front of a list

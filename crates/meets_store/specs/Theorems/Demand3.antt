@@ -11,9 +11,9 @@ use Rattle.overlap_checker.specs.State.{empty_state, answer}
 use Rattle.overlap_checker.specs.Lent.{held, held_marks, Sound, call_answer}
 use Rattle.overlap_checker.specs.Folds.{state_after, accepted, accepted_by, nonzero, empties, RefusedBy}
 use Rattle.overlap_checker.specs.Laws.Ascending.{ends-before}
-use Rattle.overlap_checker.specs.Laws.Going.{held-ascends}
-use Rattle.overlap_checker.specs.Theorems.Demand3Calls as calls
-use Rattle.overlap_checker.specs.Laws.WhatIsStored as what
+use Rattle.overlap_checker.proofs.GoingLaws.{held-ascends}
+use Rattle.overlap_checker.proofs.Demand3Calls as calls
+use Rattle.overlap_checker.proofs.WhatIsStored as what
 use Rattle.says.specs.Words.{Not}
 use Rattle.says.specs.Store.{Store, Outcome, Inside, start, size, mark, OfferSays}
 use Rattle.says.specs.Offers.{handed}

@@ -13,7 +13,7 @@ use Rattle.overlap_checker.specs.Interval.{interval}
 use Rattle.overlap_checker.specs.State.{after}
 use Rattle.overlap_checker.specs.Lent.{Lent, lent, Sound, state_in, laid_into, leaving, call_answer, Calls}
 use Rattle.overlap_checker.specs.Laws.Checks.{sound-fine}
-use Rattle.overlap_checker.specs.Laws.Kept.{called-refused}
+use Rattle.overlap_checker.proofs.Kept.{called-refused}
 use Rattle.overlap_lent.specs.Many as m
 use Rattle.overlap_lent.specs.Many.{Taken, Ends, Takes}
 use Rattle.c_answers.specs.Stores.{in_figures, numbered}

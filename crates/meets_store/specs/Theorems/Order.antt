@@ -12,10 +12,10 @@ use Rattle.overlap_checker.specs.Entries.{entry_at}
 use Rattle.overlap_checker.specs.State.{is_accepted}
 use Rattle.overlap_checker.specs.Lent.{Lent, held, held_marks, Sound}
 use Rattle.overlap_checker.specs.Folds.{accepted_by, CallsInTurn}
-use Rattle.overlap_checker.specs.Theorems.Reordered as reorder
+use Rattle.overlap_checker.proofs.Reordered as reorder
 use Rattle.overlap_checker.specs.Reordered.{AllAccepted, HoldsNothing}
-use Rattle.overlap_checker.specs.Laws.Reordered.{reordered-within}
-use Rattle.overlap_checker.specs.Theorems.Demand3Calls.{sound-in-turn}
+use Rattle.overlap_checker.proofs.ReorderedLaws.{reordered-within}
+use Rattle.overlap_checker.proofs.Demand3Calls.{sound-in-turn}
 use Rattle.says.specs.Store.{Store, start, size, mark}
 use Rattle.meets_store.specs.Calls.{Empty, AllWithin, Calls}
 use Rattle.meets_store.specs.Laws.Held.{as_lent, count-is, entry-is, mark-count-is, mark-is}

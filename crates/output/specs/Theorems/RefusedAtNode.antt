@@ -18,11 +18,11 @@ use Rattle.overlap_checker.specs.Interval.{interval, StrictlyInside}
 use Rattle.overlap_checker.specs.State.{State, empty_state, answer}
 use Rattle.overlap_checker.specs.Folds.{state_after, accepted, nonzero, empties, SharesBitWith, CoversMark, InsideOf, RefusedBy}
 use Rattle.overlap_checker.specs.Laws.Folds.{HasInside}
-use Rattle.overlap_checker.specs.Laws.Going.{Fits, fits-empty, fits-folded}
+use Rattle.overlap_checker.proofs.GoingLaws.{Fits, fits-empty, fits-folded}
 use Rattle.overlap_checker.specs.Naming.{Named}
-use Rattle.overlap_checker.specs.Laws.WhatIsStored.{stored-accepted, accepted-stored, mark-accepted, accepted-mark}
-use Rattle.overlap_checker.specs.Theorems.Demand3.{overlap-offered, full-offered, full-place, empty-offered, mark-full-offered, overlap-names}
-use Rattle.overlap_checker.specs.Theorems.Demand3.{stored-is-accepted, marks-are-accepted, stored-few, marks-few}
+use Rattle.overlap_checker.proofs.WhatIsStored.{stored-accepted, accepted-stored, mark-accepted, accepted-mark}
+use Rattle.overlap_checker.proofs.Demand3.{overlap-offered, full-offered, full-place, empty-offered, mark-full-offered, overlap-names}
+use Rattle.overlap_checker.proofs.Demand3.{stored-is-accepted, marks-are-accepted, stored-few, marks-few}
 use Rattle.build_visits.specs.declared.Visit.{Visit}
 use Rattle.build_visits.specs.Visits.{position_of}
 use Rattle.build_visits.specs.Items.{is_written}

@@ -12,12 +12,12 @@ use Rattle.overlap_checker.specs.declared.Entry.{Entry}
 use Rattle.overlap_checker.specs.Interval.{interval, end, StrictlyInside, strictly_inside, clashes}
 use Rattle.overlap_checker.specs.Offers.{place_for, clashes_any}
 use Rattle.overlap_checker.specs.Marks.{count_below, crosses_any, lowest_inside, mark_at_fault, first_mark_fault, ProperMarks}
-use Rattle.overlap_checker.specs.State.{put_at, inserted, marked}
+use Rattle.overlap_checker.specs.State.{put_at, inserted}
 use Rattle.overlap_checker.specs.Laws.Ascending.{told, lt-or-le, or-none}
 use Rattle.overlap_checker.specs.Theorems.Bits.{inside-exactly, clash-empty-exactly}
 use Rattle.overlap_checker.specs.Laws.Bits.{any_found, any_of}
 use Rattle.overlap_checker.specs.Rising.{Rising}
-use Rattle.overlap_checker.specs.Laws.Rising.{rising-ordered, rising-member, count_none, count-one, counted-below, counted-above}
+use Rattle.overlap_checker.specs.Laws.Rising.{rising-ordered, rising-member, counted-below, counted-above}
 
 -- ---- strictly inside
 
@@ -205,18 +205,6 @@ resting-inserted l e floor (m ∷ ms) a none =
       },
       resting-inserted l e m ms a.1 rest,
     )
-
--- a mark put in at its place
-pub resting-marked : (l : List Entry) (p floor : ℕ) (ms : List ℕ) → Resting l floor ms → Lies l floor p → Resting l floor (marked ms p)
-unfolding count_below
-resting-marked l p floor [] a s = (s, tt)
-resting-marked l p floor (m ∷ ms) a s =
-    ⊎_elim
-    (λ low. rw (count-one p m ms low)
-    (a.0, resting-marked l p m ms a.1 (record { above = omega (arith, low); within = s.within; outside = s.outside })))
-    (λ high. rw (count_none p m (m ∷ ms) (omega arith, resting-rising l m ms a.1) high)
-    (s, (record { above = high; within = a.0.within; outside = a.0.outside }, a.1)))
-    (lt-or-le m p)
 
 -- ---- resting is proper
 

@@ -1,6 +1,6 @@
 -- The three ways that an offer goes, and what each leaves in the store: laws of `tries`, `answer`, `keeping` and `after`.
-use Rattle.std.specs.Prelude.{◌≡◌, ◌⊎◌, true, false, ℕ, ◌<◌, length}
-use Rattle.std.proofs.Common.{sym, ◌∙◌, arith, lt-ltb, le-ltb}
+use Rattle.std.specs.Prelude.{◌≡◌, ◌⊎◌, Bool, true, false, ℕ, ◌<◌, length}
+use Rattle.std.proofs.Common.{sym, ◌∙◌, arith, lt-ltb, le-ltb, subst, true≢false}
 use Rattle.std.proofs.Math.Path.{ap}
 use Rattle.std.proofs.Math.Logic.{inl, inr, ⊎_elim}
 use Rattle.std.proofs.Math.Bool.{or-true}
@@ -84,7 +84,16 @@ module _ (s : State) (e : Entry) where
 
     pub tries-map : {Y : Type 0} (f : X → Y) → f (tries s e a b c) ≡ tries s e (f a) (f b) (f c)
     unfolding tries
-    tries-map f = three_ways (λ h. rw h) (λ h l. rw (h, l)) (λ h l. rw (h, l))
+    tries-map f =
+        ⊎_elim (λ hit. ⊎_elim (λ none. both true true hit none) (λ some. both true false hit some) (told (lacks_room (length s.intervals) (length s.marks) e.size)))
+        (λ clear. ⊎_elim (λ none. both false true clear none) (λ some. both false false clear some) (told (lacks_room (length s.intervals) (length s.marks) e.size)))
+        (told (meets s e))
+      where
+        both : (p q : Bool) → meets s e ≡ p → lacks_room (length s.intervals) (length s.marks) e.size ≡ q → f (tries s e a b c) ≡ tries s e (f a) (f b) (f c)
+        both true true h l = simp (h, l)
+        both true false h l = simp (h, l)
+        both false true h l = simp (h, l)
+        both false false h l = simp (h, l)
 
   -- The answer's number and place are the figures.
   pub told-answer : (node : ℕ) → told_verdict (answer s e node) ≡ figures s e node
@@ -96,7 +105,17 @@ module _ (s : State) (e : Entry) where
 
   module _ (node : ℕ) where
     pub answer-overlaps : Hit → answer s e node ≡ Refused (Overlap (named_in s e).position (named_in s e).size)
-    answer-overlaps h = tries-overlaps _ _ _ h
+    unfolding tries
+    answer-overlaps h = rw h
+
+    -- An offer that meets something is refused, whatever it is told.
+    pub hit-refused : Hit → is_accepted (answer s e node) ≡ false
+    unfolding tries
+    hit-refused h = ⊎_elim (λ l. off true h l) (λ l. off false h l) (told (lacks_room (length s.intervals) (length s.marks) e.size))
+      where
+        off : (q : Bool) → meets s e ≡ true → lacks_room (length s.intervals) (length s.marks) e.size ≡ q → is_accepted (answer s e node) ≡ false
+        off true hit l = simp (hit, l)
+        off false hit l = simp (hit, l)
 
     pub answer-full : Clear → Lacks → answer s e node ≡ Refused (StoreFull node)
     answer-full h l = tries-full _ _ _ h l
@@ -107,7 +126,7 @@ module _ (s : State) (e : Entry) where
     -- an accepted offer meets nothing, and finds room
     pub accepted-clear : answer s e node ≡ Accepted → Clear
     accepted-clear given =
-        three_ways (λ h. absurd (not-both (sym given ∙ answer-overlaps h))) (λ h l. h) (λ h l. h)
+        three_ways (λ h. absurd (true≢false (sym (ap is_accepted given) ∙ hit-refused h))) (λ h l. h) (λ h l. h)
 
     pub accepted-free : answer s e node ≡ Accepted → clashes_any e s.intervals ≡ false
     accepted-free given = (clear_apart (accepted-clear given)).0
@@ -140,6 +159,10 @@ module _ (s : State) (e : Entry) where
     unfolding after
     refused-keeps why r = pick-false (keeping s e) s (sym (accepts-any-node node) ∙ ap is_accepted r)
 
+    pub hit-keeps : Hit → after s e ≡ s
+    unfolding after
+    hit-keeps h = pick-false (keeping s e) s (sym (accepts-any-node node) ∙ hit-refused h)
+
   pub keeping-bits : 0 < e.size → keeping s e ≡ holding (inserted s.intervals e) s.marks
   unfolding keeping
   keeping-bits n = pick_true (holding (inserted s.intervals e) s.marks) _ (lt-ltb 0 e.size n)
@@ -155,7 +178,7 @@ module _ (s : State) (e : Entry) where
       → P (after s e)
   after-either P same put mark =
       three_ways
-      (λ h. rw (refused-keeps 0 _ (answer-overlaps 0 h)) same)
+      (λ h. subst P (sym (hit-keeps 0 h)) same)
       (λ h l. rw (refused-keeps 0 _ (answer-full 0 h l)) same)
       (λ h l. rw (accepted-keeps 0 (answer-passes 0 h l))
       (⊎_elim (λ n. rw (keeping-bits n) (put h n (accepted-room 0 (answer-passes 0 h l) n)))

@@ -9,7 +9,7 @@ use Rattle.iter.specs.Address.{address_of}
 use Rattle.resolver.specs.Once.{bank_record}
 use Rattle.print_text.specs.Decimal.{decimal, digit}
 use Rattle.print_text.specs.Laws.Decimal.{by-tens, decimal-few}
-use Rattle.print_text.specs.Theorems.Decimal.{decimal_injective, decimal-more, decimal-some}
+use Rattle.print_text.proofs.Decimal.{decimal_injective, decimal-more, decimal-some}
 use Rattle.print_map.specs.Cells.{Cell, number, minus, none, cell_text, cells_from, line_of}
 use Rattle.print_map.specs.ReadBack.{Columns, SameColumns}
 use Rattle.print_map.specs.Text.{address_cell, word_cell}

@@ -38,7 +38,7 @@ use Rattle.resolver.specs.declared.Settled.TheVariants.{At, Refused as Unsettled
 use Rattle.overlap_checker.specs.Ascending.{Ascending}
 use Rattle.overlap_checker.specs.Entries.{entry_at, entry_before}
 use Rattle.overlap_checker.specs.Folds.{state_after}
-use Rattle.overlap_checker.specs.Laws.Going.{Fits, fits-empty, fits_after}
+use Rattle.overlap_checker.proofs.GoingLaws.{Fits, fits-empty, fits_after}
 use Rattle.overlap_checker.specs.Interval.{interval, end, strictly_inside, clashes, Within}
 use Rattle.overlap_checker.specs.Marks.{lowest_inside}
 use Rattle.overlap_checker.specs.Offers.{place_for, clashes_any, named, lacks_room}

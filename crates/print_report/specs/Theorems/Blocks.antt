@@ -2,7 +2,7 @@
 use Rattle.std.specs.Prelude.{◌≡◌, true, List, [], ◌∷◌, ℕ}
 use Rattle.std.proofs.Common.{arith}
 use Rattle.sort.specs.Agree.{All}
-use Rattle.sort.specs.Laws.Agree.{all-sorted}
+use Rattle.sort.proofs.Agree.{all-sorted}
 use Rattle.blocks.specs.Theorems.Acceptable.{acceptable-parts}
 use Rattle.blocks.specs.Outcome.{origins, sizes}
 use Rattle.blocks.specs.Spans.{spans_of, acceptable, rank_of, by_offset}

@@ -1,5 +1,6 @@
 use native.Mathlib.Omega.{arith}
-use Rattle.print_text.specs.Theorems.Decimal.{decimal-length, length_more}
+use Rattle.print_text.specs.Theorems.Decimal.{decimal-length}
+use Rattle.print_text.proofs.Decimal.{length_more}
 use Rattle.print_text.specs.Laws.Decimal.{length-few}
 use Rattle.print_text.proofs.decimal_length.Goals as goal
 

@@ -3,7 +3,7 @@ use mathlib.Core.Path.{refl}
 use mathlib.Core.List.{[], append-nil}
 use native.Mathlib.Omega.{arith}
 use Rattle.print_text.specs.Decimal.{decimal}
-use Rattle.print_text.specs.Theorems.Decimal.{decimal-some, length_more}
+use Rattle.print_text.proofs.Decimal.{decimal-some, length_more}
 use Rattle.print_text.proofs.Digits.{turn, last}
 use Rattle.print_text.proofs.write_number.Goals as goal
 

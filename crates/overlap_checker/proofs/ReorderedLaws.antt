@@ -9,9 +9,9 @@ use Rattle.overlap_checker.specs.declared.Entry.{Entry}
 use Rattle.overlap_checker.specs.State.{State, empty_state, answer, after}
 use Rattle.overlap_checker.specs.Lent.{Lent, state_in, laid_into}
 use Rattle.overlap_checker.specs.Folds.{state_after, answers, AllWithin, CallsInTurn}
-use Rattle.overlap_checker.specs.Laws.Going.{Fits, fits_after}
-use Rattle.overlap_checker.specs.Laws.Exchange.{either_order}
-use Rattle.overlap_checker.specs.Theorems.Demand3Calls as calls
+use Rattle.overlap_checker.proofs.GoingLaws.{Fits, fits_after}
+use Rattle.overlap_checker.proofs.Exchange.{either_order}
+use Rattle.overlap_checker.proofs.Demand3Calls as calls
 use Rattle.overlap_checker.specs.Reordered.{AllAccepted, HoldsNothing}
 
 -- a reordering of offers within the limits is within the limits

@@ -14,7 +14,7 @@ use Rattle.overlap_checker.specs.Lent.{Lent, zipped, state_in, Sound, laid_into,
 use Rattle.overlap_checker.specs.Lent.{Offers}
 use Rattle.overlap_checker.specs.Theorems.Answers.{refused-keeps}
 use Rattle.overlap_checker.specs.Laws.Laid.{state-laid}
-use Rattle.overlap_checker.specs.Laws.Going.{fits_after, fits_in, laid-again, sound-laid}
+use Rattle.overlap_checker.proofs.GoingLaws.{fits_after, fits_in, laid-again, sound-laid}
 
 -- ---- one offer
 

@@ -14,12 +14,12 @@ use Rattle.overlap_checker.specs.Laws.Ascending.{told, lt-or-le, or-none}
 use Rattle.overlap_checker.specs.Ascending.{Ascending}
 use Rattle.overlap_checker.specs.Theorems.Bits.{inside-exactly, clash-exactly, clash-empty-exactly}
 use Rattle.overlap_checker.specs.Laws.MarkLaws.{crosses-none, resting-rising}
-use Rattle.overlap_checker.specs.Theorems.MarkLaws.{length_marked}
+use Rattle.overlap_checker.proofs.MarkLaws.{length_marked}
 use Rattle.overlap_checker.specs.Theorems.Answers.{apart-clear, answer-passes, accepted-free, accepted-uncrossed, accepted-room}
 use Rattle.overlap_checker.specs.Laws.Answers.{room-below, mark-room}
 use Rattle.overlap_checker.specs.Theorems.Answers.{accepted-mark-room, accepted-keeps, keeping-bits, keeping-mark}
-use Rattle.overlap_checker.specs.Laws.Going.{Fits, fits_after, length_inserted}
-use Rattle.overlap_checker.specs.Laws.Insertion.{inserted-either, marked-either}
+use Rattle.overlap_checker.proofs.GoingLaws.{Fits, fits_after, length_inserted}
+use Rattle.overlap_checker.proofs.Insertion.{inserted-either, marked-either}
 
 -- ---- tests of a list with one more in it
 

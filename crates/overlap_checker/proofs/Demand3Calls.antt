@@ -14,11 +14,11 @@ use Rattle.overlap_checker.specs.Lent.{Lent, held, held_marks, state_in, Sound, 
 use Rattle.overlap_checker.specs.Folds.{state_after, answers, accepted_by, empties, AllWithin, SharesBitWith, CoversMark, InsideOf, RefusedBy}
 use Rattle.overlap_checker.specs.Folds.{CallsInTurn}
 use Rattle.overlap_checker.specs.Laws.Laid.{state-laid}
-use Rattle.overlap_checker.specs.Laws.Going.{state-none}
-use Rattle.overlap_checker.specs.Theorems.Going.{sound_none}
+use Rattle.overlap_checker.proofs.GoingLaws.{state-none}
+use Rattle.overlap_checker.proofs.Going.{sound_none}
 use Rattle.overlap_checker.specs.Theorems.Checks.{calls-offers}
-use Rattle.overlap_checker.specs.Theorems.Demand3 as fold
-use Rattle.overlap_checker.specs.Laws.Demand3Calls.{Turned, turned}
+use Rattle.overlap_checker.proofs.Demand3 as fold
+use Rattle.overlap_checker.proofs.Demand3CallsLaws.{Turned, turned}
 
 -- ---- demand 3
 

@@ -10,8 +10,8 @@ use Rattle.overlap_checker.specs.Lent.{Lent, lent, state_in, Sound, laid, starts
 use Rattle.overlap_checker.specs.Folds.{state_after, answers, AllWithin}
 use Rattle.overlap_checker.specs.Folds.{CallsInTurn}
 use Rattle.overlap_checker.specs.Laws.Laid.{starts-length, lengths-length}
-use Rattle.overlap_checker.specs.Laws.Going.{Grown, laid-again, folded_grows}
-use Rattle.overlap_checker.specs.Theorems.Going.{left_is, state-after, sound-after}
+use Rattle.overlap_checker.proofs.GoingLaws.{Grown, laid-again, folded_grows}
+use Rattle.overlap_checker.proofs.Going.{left_is, state-after, sound-after}
 use Rattle.overlap_checker.specs.Theorems.Checks.{calls-offers}
 
 -- ---- laid twice

@@ -21,11 +21,11 @@ use Rattle.overlap_checker.specs.Laws.MarkLaws.{cross-found, cross-of, crosses-n
 use Rattle.overlap_checker.specs.Theorems.Answers.{clear_apart, apart-clear, clash-hits, cross-hits, hit-either, three_ways, answer-overlaps, answer-full}
 use Rattle.overlap_checker.specs.Theorems.Answers.{answer-passes, named-interval, named-mark}
 use Rattle.overlap_checker.specs.Laws.Answers.{room-below, no_room, mark-room, no-mark-room}
-use Rattle.overlap_checker.specs.Laws.Going.{Fits, fits-empty, fits-folded}
+use Rattle.overlap_checker.proofs.GoingLaws.{Fits, fits-empty, fits-folded}
 use Rattle.overlap_checker.specs.Laws.Faults.{same_number, ascending-proper}
-use Rattle.overlap_checker.specs.Laws.WhatIsStored as what
+use Rattle.overlap_checker.proofs.WhatIsStored as what
 use Rattle.overlap_checker.specs.Laws.WhoIsNamed.{named-by}
-use Rattle.overlap_checker.specs.Laws.Demand3.{clash-inside, clash-shares, few-after}
+use Rattle.overlap_checker.proofs.Demand3Laws.{clash-inside, clash-shares, few-after}
 
 module _ (s : State) (e : Entry) (node : ℕ) where
   -- 12 is to meet something

@@ -10,8 +10,9 @@ use Rattle.overlap_checker.specs.Offers.{place_for, clashes_any}
 use Rattle.overlap_checker.specs.Marks.{count_below}
 use Rattle.overlap_checker.specs.Rising.{Rising}
 use Rattle.overlap_checker.specs.Laws.Rising.{place-counts, starts-rising}
-use Rattle.overlap_checker.specs.Laws.MarkLaws.{Resting, resting, resting-rising, orderly, resting-inserted, resting-marked}
-use Rattle.overlap_checker.specs.Theorems.MarkLaws.{length_marked}
+use Rattle.overlap_checker.specs.Laws.MarkLaws.{Resting, resting, resting-rising, orderly, resting-inserted}
+use Rattle.overlap_checker.proofs.MarkLaws.{resting-marked}
+use Rattle.overlap_checker.proofs.MarkLaws.{length_marked}
 use Rattle.overlap_checker.specs.State.{State, empty_state, inserted, after}
 use Rattle.overlap_checker.specs.Lent.{Spans, Lent, spans_of, zipped, held_in, held, held_marks, state_in, Intact, Sound, laid_into, starts, lengths}
 use Rattle.overlap_checker.specs.Folds.{state_after, AllWithin}

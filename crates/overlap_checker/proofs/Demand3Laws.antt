@@ -8,9 +8,9 @@ use Rattle.overlap_checker.specs.State.{State, after}
 use Rattle.overlap_checker.specs.Folds.{state_after, SharesBitWith, InsideOf}
 use Rattle.overlap_checker.specs.Theorems.Bits.{clash-exactly, clash-empty-exactly}
 use Rattle.overlap_checker.specs.Laws.Bits.{any_found, any_of}
-use Rattle.overlap_checker.specs.Theorems.MarkLaws.{length_marked}
+use Rattle.overlap_checker.proofs.MarkLaws.{length_marked}
 use Rattle.overlap_checker.specs.Theorems.Answers.{after-either}
-use Rattle.overlap_checker.specs.Laws.Going.{length_inserted}
+use Rattle.overlap_checker.proofs.GoingLaws.{length_inserted}
 
 -- ---- one offer to any state
 

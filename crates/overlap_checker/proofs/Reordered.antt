@@ -7,8 +7,8 @@ use Rattle.overlap_checker.specs.declared.Entry.{Entry}
 use Rattle.overlap_checker.specs.State.{State, empty_state}
 use Rattle.overlap_checker.specs.Lent.{Lent, held, held_marks, state_in, laid_into}
 use Rattle.overlap_checker.specs.Folds.{state_after, answers, AllWithin, CallsInTurn}
-use Rattle.overlap_checker.specs.Laws.Going.{fits-empty}
-use Rattle.overlap_checker.specs.Laws.Reordered.{alike, holds, left, reordered-within, said}
+use Rattle.overlap_checker.proofs.GoingLaws.{fits-empty}
+use Rattle.overlap_checker.proofs.ReorderedLaws.{alike, holds, left, reordered-within, said}
 use Rattle.overlap_checker.specs.Reordered.{AllAccepted, HoldsNothing}
 
 -- ---- Ticket 11, of offers made one after another
