@@ -2,16 +2,14 @@
 use mathlib.Core.Path.{◌≡◌, refl, sym, ap, ap₂, subst, ◌∙◌}
 use mathlib.Core.Bool.{true}
 use mathlib.Core.List.{List, [], ◌∷◌, ◌++◌, append-nil, append_assoc}
-use Prim.Native.Nat.{ℕ, ◌+◌, ◌-◌, ◌*◌, ◌/◌, ◌≤◌, ◌<◌, min}
+use Prim.Native.Nat.{ℕ, ◌+◌, ◌-◌, ◌*◌, ◌/◌, ◌≤◌, ◌<◌}
 use native.Mathlib.Numerals.{add-one}
-use native.Mathlib.Decide.{dec_le}
 use native.Mathlib.Omega.{arith}
 use borrow.Author.Tests.{le-leb, lt-ltb, le-ltb, eq-eqb, ne_eqb}
 use lib.Dec.{leb}
-use lib.ListN.{length, take, drop, get_or, length-append, length-take, length-drop, drop_of_length-le}
+use lib.ListN.{length, take, drop, get_or, length-append, length-drop, drop_of_length-le}
 use lib.Seq.{sets, sets-eq, length-sets, take_all, drop-drop, drop-cons, length-take-le}
 use Rattle.prelude.specs.Laws.Bools.{unlike}
-use Rattle.prog_args.specs.Counts.{IsPrefixLen}
 use Rattle.prelude.specs.Laws.Pick.{pick_true, pick-false}
 use Rattle.prelude.specs.declared.Refusal.{Refusal}
 use Rattle.prelude.specs.declared.Refusal.TheVariants.{BadPart}
@@ -19,16 +17,15 @@ use Rattle.bitvec.specs.HexDigits.{digit_count, hex_of, Prints}
 use Rattle.bitvec.specs.Theorems.HexDigits.{length-hex_of}
 use Rattle.bitvec.specs.declared.Hex.{Hex}
 use Rattle.bitvec.specs.declared.Hex.TheVariants.{Digits, Refused}
-use Rattle.overlay.specs.Range.{source_of, bytes_of}
+use Rattle.overlay.specs.Range.{source_of}
 use Rattle.overlay.specs.Trial.{Trial}
 use Rattle.overlay.specs.declared.Source.{Source}
-use Rattle.overlay.specs.declared.Source.TheVariants as source
 use Rattle.print_text.specs.Ascii.{ascii}
 use Rattle.print_text.specs.Lines.{spaced, line, refusal_text}
 use Rattle.print_text.specs.Puts.{Writes}
 use Rattle.prog_args.specs.Text.{Stands}
 use Rattle.record_lines.specs.Laws.Puts.{sets_then}
-use Rattle.print_bench.specs.Images.{extent_of, beyond_of, free_from, alone_in}
+use Rattle.print_bench.specs.Images.{beyond_of, free_from, alone_in}
 use Rattle.print_bench.specs.Program.{field, run_text, run_lines, alone_text, named_text, ToldBy, source_text, range_text}
 
 -- ---- text behind text
@@ -69,9 +66,6 @@ pub record Going (all old left new : List ℕ) (end : ℕ) : Type 0 where
   pub same : sets old 0 all ≡ sets new end left
   pub ends : length all ≡ end + length left
   pub long : length new ≡ length old
-
-pub going_start : (all old : List ℕ) → Going all old all old 0
-going_start all old = record { same = refl; ends = omega arith; long = refl }
 
 pub going_on : {all old line left mid new : List ℕ} {at end : ℕ} → Going all old (line ++ left) mid at → Writes line mid at end new
     → Going all old left new end
@@ -243,21 +237,6 @@ module _ (load first count free lack : ℕ) (t : Trial) where
   unfolding source_text
   told-as e = ap (ToldBy load first count free lack t) e
 
-  pub few_bytes : (n : ℕ) → length t.overlay ≤ n → length t.released ≤ n → (s : Source) → length (bytes_of t first count s) ≤ n
-  few_bytes n h k source.Overlay = omega (arith, length-take count (drop first t.overlay), length-drop first t.overlay)
-  few_bytes n h k source.Released = omega (arith, length-take count (drop first t.released), length-drop first t.released)
-  few_bytes n h k (source.Refused why) = omega arith
-
--- ---- an image's end
-
-pub extent-none : (os ss : List ℕ) → length os ≡ 0 → length os ≡ length ss → extent_of os ss ≡ 0
-extent-none [] [] e f = refl
-extent-none [] (s ∷ ss) e f = absurd (omega arith)
-extent-none (o ∷ os) ss e f = absurd (omega arith)
-
-pub counts-front : (l : List ℕ) (n : ℕ) → n ≤ length l → IsPrefixLen n l
-counts-front l n h = (h, sym (length-take-le n l h))
-
 -- ---- a byte that only one of two files gives
 
 module _ (os₁ ss₁ os ss : List ℕ) (i end : ℕ) where
@@ -288,7 +267,7 @@ pub alone-nowhere : (os₁ ss₁ os ss : List ℕ) (i end : ℕ) → length ss �
 alone-nowhere os₁ ss₁ os ss i end h =
     ap (λ (l : List ℕ). alone_in os₁ ss₁ (drop i os) l end) (drop_of_length-le ss {i = i} h) ∙ alone-short os₁ ss₁ (drop i os) end
 
--- ---- a range, and an image
+-- ---- a range, and a copy
 
 module _ (load address count : ℕ) (t : Trial) (os ss : List ℕ) where
   pub range-empty : count ≡ 0 → refusal_text BadPart ≡ range_text load address count t os ss
@@ -306,13 +285,6 @@ module _ (load address count : ℕ) (t : Trial) (os ss : List ℕ) where
   range_at h k e f =
       ap₂ (λ (a b : ℕ). source_text load (address - load) count a b t) e f
       ∙ sym (pick-false _ _ (ne_eqb count 0 h) ∙ pick-false _ _ (le-ltb address load k))
-
-pub take_min : (l : List ℕ) (m n : ℕ) → m ≡ min n (length l) → take m l ≡ take n l
-take_min l m n e =
-    elim (dec_le n (length l)) [
-      | yes h ↦ let same : m ≡ n = omega arith in ap (λ (k : ℕ). take k l) same
-      | no h ↦ take_all m l (omega arith) ∙ sym (take_all n l (omega arith))
-    ]
 
 -- a list written over one as long is a copy
 pub copied : {text old new : List ℕ} {r : ℕ} → Writes text old 0 r new → length text ≡ length old → new ≡ text

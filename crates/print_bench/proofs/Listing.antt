@@ -160,9 +160,6 @@ module _ (t : Trial) (small : length t.released ≤ bytes_room) (little : length
       pub counted : count ≡ n
       counted = all_three.2
 
-      pub few : count ≤ runs_room
-      few = omega (arith, counted, leb-true n runs_room all_three.1)
-
       first : take count fs' ≡ origins (runs_of t)
       first =
           ap (take count) (met.first ∙ pick_true _ _ all_three.0 ∙ pick_true _ _ (roomy ∙ all_three.1))
@@ -172,12 +169,6 @@ module _ (t : Trial) (small : length t.released ≤ bytes_room) (little : length
       second =
           ap (take count) (met.second ∙ pick_true _ _ all_three.0 ∙ pick_true _ _ (roomy ∙ all_three.1))
           ∙ take_at (sizes (runs_of t)) (drop (length (sizes (runs_of t))) cs) count (length-map (runs_of t) (λ (x : Block). x.size) ∙ sym counted)
-
-      pub first-long : length (take count fs') ≡ count
-      first-long = ap length first ∙ length-map (runs_of t) _ ∙ sym counted
-
-      pub second-long : length (take count cs') ≡ count
-      second-long = ap length second ∙ length-map (runs_of t) _ ∙ sym counted
 
       pub each-listed : EachInBoth t.released t.overlay (take count fs') (take count cs')
       each-listed = subst (λ (x : List ℕ). EachInBoth t.released t.overlay x (take count cs')) (sym first)
