@@ -29,7 +29,7 @@ pub extern "C" fn dk_build(
     sizes: &mut [u64],
 ) -> DkLayout
     ensures { BuildSays (record {
-      units = units.entry.now;
+      units = units.now;
       starts = starts.now;
       bank_sizes = bank_sizes.now;
       bank_offsets = bank_offsets.now;
@@ -45,10 +45,10 @@ pub extern "C" fn dk_build(
       limit = limit;
       fill = fill;
       closed = closed;
-    }) (record { image = image.entry.now; addresses = addresses.old; offsets = offsets.old; sizes = sizes.old })
+    }) (record { image = image.old; addresses = addresses.old; offsets = offsets.old; sizes = sizes.old })
         (record {
           answer = result;
-          lent = record { image = image.exit.now; addresses = addresses.new; offsets = offsets.new; sizes = sizes.new };
+          lent = record { image = image.new; addresses = addresses.new; offsets = offsets.new; sizes = sizes.new };
         }) }
 {
     let banks = make_banks(

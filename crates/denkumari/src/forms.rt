@@ -16,10 +16,10 @@ pub extern "C" fn dk_form(
     sizes: &mut [u64],
 ) -> DkLayout
     ensures { FormSays file.now fill
-        (record { image = image.entry.now; addresses = addresses.old; offsets = offsets.old; sizes = sizes.old })
+        (record { image = image.old; addresses = addresses.old; offsets = offsets.old; sizes = sizes.old })
         (record {
           answer = result;
-          lent = record { image = image.exit.now; addresses = addresses.new; offsets = offsets.new; sizes = sizes.new };
+          lent = record { image = image.new; addresses = addresses.new; offsets = offsets.new; sizes = sizes.new };
         }) }
 {
     tell_layout(form_build::build_file(file, fill, Opt::None, image, addresses, offsets, sizes))
@@ -37,10 +37,10 @@ pub extern "C" fn dk_form_paged(
     sizes: &mut [u64],
 ) -> DkLayout
     ensures { FormPagedSays file.now fill page
-        (record { image = image.entry.now; addresses = addresses.old; offsets = offsets.old; sizes = sizes.old })
+        (record { image = image.old; addresses = addresses.old; offsets = offsets.old; sizes = sizes.old })
         (record {
           answer = result;
-          lent = record { image = image.exit.now; addresses = addresses.new; offsets = offsets.new; sizes = sizes.new };
+          lent = record { image = image.new; addresses = addresses.new; offsets = offsets.new; sizes = sizes.new };
         }) }
 {
     tell_layout(form_build::build_file(

@@ -29,7 +29,7 @@ pub extern "C" fn dk_map(
     sizes: &mut [u32; 4096],
 ) -> DkMap
     ensures { MapSays (record {
-      units = units.entry.now;
+      units = units.now;
       starts = starts.now;
       bank_sizes = bank_sizes.now;
       bank_offsets = bank_offsets.now;

@@ -26,7 +26,7 @@ pub extern "C" fn dk_profile(
     fill: u8,
 ) -> DkProfile
     ensures { ProfileSays (record {
-      units = units.entry.now;
+      units = units.now;
       starts = starts.now;
       bank_sizes = bank_sizes.now;
       bank_offsets = bank_offsets.now;
@@ -85,7 +85,7 @@ pub extern "C" fn dk_build_paged(
     sizes: &mut [u64],
 ) -> DkLayout
     ensures { PagedSays (record {
-      units = units.entry.now;
+      units = units.now;
       starts = starts.now;
       bank_sizes = bank_sizes.now;
       bank_offsets = bank_offsets.now;
@@ -101,10 +101,10 @@ pub extern "C" fn dk_build_paged(
       limit = limit;
       fill = fill;
       closed = closed;
-    }) page (record { image = image.entry.now; addresses = addresses.old; offsets = offsets.old; sizes = sizes.old })
+    }) page (record { image = image.old; addresses = addresses.old; offsets = offsets.old; sizes = sizes.old })
         (record {
           answer = result;
-          lent = record { image = image.exit.now; addresses = addresses.new; offsets = offsets.new; sizes = sizes.new };
+          lent = record { image = image.new; addresses = addresses.new; offsets = offsets.new; sizes = sizes.new };
         }) }
 {
     let banks = make_banks(

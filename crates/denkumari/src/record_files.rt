@@ -22,7 +22,7 @@ pub extern "C" fn dk_write_hex(
     text: &mut [u8],
 ) -> DkCount
     ensures { HexSays
-        (record { image = image.entry.now; offsets = offsets.now; sizes = sizes.now; load = load })
+        (record { image = image.now; offsets = offsets.now; sizes = sizes.now; load = load })
         text.old (record { answer = result; text = text.new }) }
 {
     tell_written(record_write::write_ihex(image, offsets, sizes, load, text))
@@ -39,7 +39,7 @@ pub extern "C" fn dk_write_srec(
     text: &mut [u8],
 ) -> DkCount
     ensures { SrecSays
-        (record { image = image.entry.now; offsets = offsets.now; sizes = sizes.now; load = load })
+        (record { image = image.now; offsets = offsets.now; sizes = sizes.now; load = load })
         text.old width (record { answer = result; text = text.new }) }
 {
     tell_written(record_write::write_srec(image, offsets, sizes, load, width, text))
@@ -57,10 +57,10 @@ pub extern "C" fn dk_read_records(
     scratch: &mut [u8],
 ) -> DkCount
     ensures { ReadSays format load text.now
-        (record { bytes = bytes.entry.now; offsets = offsets.old; sizes = sizes.old; scratch = scratch.old })
+        (record { bytes = bytes.old; offsets = offsets.old; sizes = sizes.old; scratch = scratch.old })
         (record {
           answer = result;
-          lent = record { bytes = bytes.exit.now; offsets = offsets.new; sizes = sizes.new; scratch = scratch.new };
+          lent = record { bytes = bytes.new; offsets = offsets.new; sizes = sizes.new; scratch = scratch.new };
         }) }
 {
     if format >= FORMATS {

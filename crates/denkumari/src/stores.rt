@@ -17,9 +17,9 @@ pub extern "C" fn dk_offer(
     size: u64,
 ) -> DkOffer
     ensures { OfferSays
-        (record { positions = positions.entry.now; sizes = sizes.old; count = count; marks = marks.old; mark_count = mark_count })
+        (record { positions = positions.old; sizes = sizes.old; count = count; marks = marks.old; mark_count = mark_count })
         (record { position = position; size = size })
-        (record { answer = result; positions = positions.exit.now; sizes = sizes.new; marks = marks.new }) }
+        (record { answer = result; positions = positions.new; sizes = sizes.new; marks = marks.new }) }
 {
     let first: &[u64] = &*positions;
     let second: &[u64] = &*sizes;
@@ -50,9 +50,9 @@ pub extern "C" fn dk_offers(
     offer_sizes: &[u64],
 ) -> DkOffered
     ensures { OffersSay
-        (record { positions = positions.entry.now; sizes = sizes.old; count = count; marks = marks.old; mark_count = mark_count })
+        (record { positions = positions.old; sizes = sizes.old; count = count; marks = marks.old; mark_count = mark_count })
         offer_positions.now offer_sizes.now
-        (record { answer = result; positions = positions.exit.now; sizes = sizes.new; marks = marks.new }) }
+        (record { answer = result; positions = positions.new; sizes = sizes.new; marks = marks.new }) }
 {
     let first: &[u64] = &*positions;
     let second: &[u64] = &*sizes;
