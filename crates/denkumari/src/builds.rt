@@ -5,8 +5,7 @@ use c_answers::{DkLayout, tell_layout};
 use c_tables::{choose, make_banks};
 
 // Lays tables out: the image, and the spans in three lists. A refused call changes nothing that is lent.
-#[unsafe(no_mangle)]
-pub extern "C" fn dk_build(
+pub fn dk_build(
     units: &[u16],
     starts: &[i64],
     bank_sizes: &[u32],

@@ -6,8 +6,7 @@ use c_answers::{DkLayout, tell_layout};
 use prelude::Opt;
 
 // Lays a file of either form out, with the fill's choice: the image, and the spans in three lists. A refused call changes nothing that is lent.
-#[unsafe(no_mangle)]
-pub extern "C" fn dk_form(
+pub fn dk_form(
     file: &[u8],
     fill: u8,
     image: &mut [u8],
@@ -26,8 +25,7 @@ pub extern "C" fn dk_form(
 }
 
 // The same in the profile of a device with pages of `page` bits: the image, and the spans in three lists. A refused call changes nothing that is lent.
-#[unsafe(no_mangle)]
-pub extern "C" fn dk_form_paged(
+pub fn dk_form_paged(
     file: &[u8],
     fill: u8,
     page: u32,

@@ -14,3 +14,17 @@ mod readbacks;
 mod reasons;
 mod record_files;
 mod stores;
+
+pub use builds::dk_build;
+pub use conversions::{dk_to_form1, dk_to_form2};
+pub use forms::{dk_form, dk_form_paged};
+pub use maps::dk_map;
+pub use overlays::{dk_overlay_range, dk_overlay_runs};
+pub use parts::{dk_blocks, dk_hex, dk_part};
+pub use profiles::{dk_build_paged, dk_profile};
+pub use readbacks::dk_verify;
+pub use reasons::dk_record_reason;
+pub use record_files::{
+    dk_read_records, dk_record_extent, dk_record_fault, dk_write_hex, dk_write_srec,
+};
+pub use stores::{dk_offer, dk_offers};

@@ -5,8 +5,7 @@ use c_answers::{DkMap, tell_map};
 use c_tables::{choose, make_banks};
 
 // Where each node stands in the row of the last pass, as far as the layout goes, and the node at which it is refused.
-#[unsafe(no_mangle)]
-pub extern "C" fn dk_map(
+pub fn dk_map(
     units: &[u16],
     starts: &[i64],
     bank_sizes: &[u32],

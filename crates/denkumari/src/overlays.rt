@@ -4,8 +4,7 @@ ghost use Rattle.says.specs.Overlay.{RangeSays, RunsSay};
 use c_answers::{DkCount, DkOverlay, tell_listed, tell_source};
 
 // Which of the two images the `count` bytes from byte `first` on come from.
-#[unsafe(no_mangle)]
-pub extern "C" fn dk_overlay_range(
+pub fn dk_overlay_range(
     overlay: &[u8],
     released: &[u8],
     offsets: &[u64],
@@ -20,8 +19,7 @@ pub extern "C" fn dk_overlay_range(
 }
 
 // The runs of covered bytes, inside both images, that differ: first byte and count of bytes of each.
-#[unsafe(no_mangle)]
-pub extern "C" fn dk_overlay_runs(
+pub fn dk_overlay_runs(
     overlay: &[u8],
     released: &[u8],
     offsets: &[u64],

@@ -6,8 +6,7 @@ ghost use Rattle.says.specs.Part.{PartSays};
 use c_answers::{DkCount, DkPart, tell_blocks, tell_hex, tell_part};
 
 // The blocks of spans that are lent as offsets and sizes; the largest number stands for no offset.
-#[unsafe(no_mangle)]
-pub extern "C" fn dk_blocks(
+pub fn dk_blocks(
     offsets: &[u64],
     sizes: &[u64],
     block_offsets: &mut [u64],
@@ -20,16 +19,14 @@ pub extern "C" fn dk_blocks(
 }
 
 // The first `bits` bits of some bytes in hex.
-#[unsafe(no_mangle)]
-pub extern "C" fn dk_hex(bytes: &[u8], bits: u64, hex: &mut [u8]) -> DkCount
+pub fn dk_hex(bytes: &[u8], bits: u64, hex: &mut [u8]) -> DkCount
     ensures { HexSays bytes.now bits hex.old (record { answer = result; hex = hex.new }) }
 {
     tell_hex(bitvec::write_hex(bytes, bits, hex))
 }
 
 // Where in an image the block of `size` bits from bit `offset` on stands, in bytes.
-#[unsafe(no_mangle)]
-pub extern "C" fn dk_part(image: &[u8], offset: u64, size: u64) -> DkPart
+pub fn dk_part(image: &[u8], offset: u64, size: u64) -> DkPart
     ensures { PartSays image.now offset size result }
 {
     tell_part(bitvec::part_verdict(image, offset, size), offset, size)

@@ -7,8 +7,7 @@ use c_tables::{choose, make_banks};
 use prelude::Opt;
 
 // Whether tables keep the profile of a device with pages of `page` bits.
-#[unsafe(no_mangle)]
-pub extern "C" fn dk_profile(
+pub fn dk_profile(
     page: u32,
     units: &[u16],
     starts: &[i64],
@@ -60,8 +59,7 @@ pub extern "C" fn dk_profile(
 }
 
 // Lays tables out in the profile of a device with pages of `page` bits. A refused call changes nothing that is lent.
-#[unsafe(no_mangle)]
-pub extern "C" fn dk_build_paged(
+pub fn dk_build_paged(
     page: u32,
     units: &[u16],
     starts: &[i64],

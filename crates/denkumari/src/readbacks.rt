@@ -4,8 +4,7 @@ ghost use Rattle.says.specs.Verify.{VerifySays};
 use c_answers::{DkCount, tell_listed};
 
 // The runs of bytes that the image's blocks ask for and that are not given, or given with another value: first byte, count of bytes and kind of each.
-#[unsafe(no_mangle)]
-pub extern "C" fn dk_verify(
+pub fn dk_verify(
     image: &[u8],
     offsets: &[u64],
     sizes: &[u64],

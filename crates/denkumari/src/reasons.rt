@@ -16,13 +16,7 @@ fn kind_of(format: u8) -> u8
 }
 
 // The line at which a file that is read so is at fault, and why.
-#[unsafe(no_mangle)]
-pub extern "C" fn dk_record_reason(
-    format: u8,
-    text: &[u8],
-    load: u32,
-    scratch: &mut [u8],
-) -> DkReason
+pub fn dk_record_reason(format: u8, text: &[u8], load: u32, scratch: &mut [u8]) -> DkReason
     ensures { DkReasonSays format load text.now scratch.old (result, scratch.new) }
 {
     tell_reason(record_reason::reason_of(kind_of(format), text, load, scratch))

@@ -13,8 +13,7 @@ use record_scan::Fault;
 const FORMATS: u8 = 2;
 
 // The blocks of an image as Intel HEX from a load address on.
-#[unsafe(no_mangle)]
-pub extern "C" fn dk_write_hex(
+pub fn dk_write_hex(
     image: &[u8],
     offsets: &[u64],
     sizes: &[u64],
@@ -29,8 +28,7 @@ pub extern "C" fn dk_write_hex(
 }
 
 // The blocks of an image as S-records from a load address on, with addresses of `width` bytes: 2 or 4.
-#[unsafe(no_mangle)]
-pub extern "C" fn dk_write_srec(
+pub fn dk_write_srec(
     image: &[u8],
     offsets: &[u64],
     sizes: &[u64],
@@ -46,8 +44,7 @@ pub extern "C" fn dk_write_srec(
 }
 
 // A file's bytes and blocks, from a load address on. The scratch makes it quick where it is zeros, and is left as it was.
-#[unsafe(no_mangle)]
-pub extern "C" fn dk_read_records(
+pub fn dk_read_records(
     format: u8,
     text: &[u8],
     load: u32,
@@ -70,8 +67,7 @@ pub extern "C" fn dk_read_records(
 }
 
 // Where a file's bytes stand: the lowest address that it gives a byte to, and the first behind the highest.
-#[unsafe(no_mangle)]
-pub extern "C" fn dk_record_extent(format: u8, text: &[u8], scratch: &mut [u8]) -> DkExtent
+pub fn dk_record_extent(format: u8, text: &[u8], scratch: &mut [u8]) -> DkExtent
     ensures { ExtentSays format text.now scratch.old (result, scratch.new) }
 {
     if format >= FORMATS {
@@ -81,8 +77,7 @@ pub extern "C" fn dk_record_extent(format: u8, text: &[u8], scratch: &mut [u8]) 
 }
 
 // The line at which a file that is read so is at fault.
-#[unsafe(no_mangle)]
-pub extern "C" fn dk_record_fault(format: u8, text: &[u8], load: u32, scratch: &mut [u8]) -> DkFault
+pub fn dk_record_fault(format: u8, text: &[u8], load: u32, scratch: &mut [u8]) -> DkFault
     ensures { FaultSays format load text.now scratch.old (result, scratch.new) }
 {
     if format >= FORMATS {

@@ -6,8 +6,7 @@ use c_answers::{DkOffer, DkOffered, tell_offer, tell_offers};
 
 // An offer of `size` bits from bit `position` on to a store: it tries 15, 4, 12, 13. Accepted, it is put in, with bits among the intervals, without
 // among the marks.
-#[unsafe(no_mangle)]
-pub extern "C" fn dk_offer(
+pub fn dk_offer(
     positions: &mut [u64; 512],
     sizes: &mut [u64; 512],
     count: u64,
@@ -39,8 +38,7 @@ pub extern "C" fn dk_offer(
 
 // A list of offers to a store, all or none: it tries 15 once, 4 where the lists are not of one length, then 4, 12, 13 of each offer in turn. All accepted, the
 // store is what so many calls of `dk_offer` leave; one refused, nothing that is lent changes.
-#[unsafe(no_mangle)]
-pub extern "C" fn dk_offers(
+pub fn dk_offers(
     positions: &mut [u64; 512],
     sizes: &mut [u64; 512],
     count: u64,
