@@ -1,2 +1,10 @@
+pub mod Has
+pub mod Parts
+pub mod RoundTrip
+pub mod RoundTripLaws
+pub mod Sections
 pub mod Tests
 pub mod Unique
+pub mod Whole
+pub mod WholeLaws
+pub mod Written

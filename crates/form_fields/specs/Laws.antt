@@ -6,12 +6,7 @@ pub mod Fields
 pub mod Filled
 pub mod Has
 pub mod Kind
-pub mod Parts
 pub mod Rest
-pub mod RoundTrip
-pub mod Sections
 pub mod Shape
 pub mod Told
-pub mod Whole
 pub mod Within
-pub mod Written

@@ -2,8 +2,5 @@ pub mod Example
 pub mod Faults
 pub mod Fields
 pub mod Filled
-pub mod Has
 pub mod Kind
-pub mod RoundTrip
 pub mod Told
-pub mod Whole

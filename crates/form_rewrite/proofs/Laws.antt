@@ -11,7 +11,7 @@ use Rattle.form_fields.specs.Laws.Columns.{column-last}
 use Rattle.form_fields.specs.Contents.{bytes16, field, flat}
 use Rattle.form_fields.specs.Laws.Has.{field-length}
 use Rattle.form_fields.specs.Whole.{part}
-use Rattle.form_fields.specs.Laws.Whole.{flat_append}
+use Rattle.form_fields.proofs.WholeLaws.{flat_append}
 use Rattle.form_rewrite.specs.Laws.PartLaws.{part_length}
 use Rattle.form_rewrite.specs.Turning.{switch_to, zeros}
 use Rattle.print_text.specs.Puts.{Writes}

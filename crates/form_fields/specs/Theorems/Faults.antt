@@ -1,13 +1,11 @@
 -- Theorems about what Faults defines.
-use Rattle.std.specs.Prelude.{false, List, ◌≡◌, refl, ℕ, ◌+◌, ◌*◌, ◌≤◌, length}
+use Rattle.std.specs.Prelude.{false, List, ◌≡◌, refl, ℕ, ◌+◌, ◌*◌, length}
 use Rattle.std.proofs.Common.{ap, ◌∙◌, arith}
 use Rattle.std.proofs.Math.Decide.{dec_le}
-use Rattle.form_fields.specs.declared.Kind.{Kind}
 use Rattle.form_fields.specs.Words.{byte}
 use Rattle.form_fields.specs.Fields.{field_at, run}
-use Rattle.form_fields.specs.Kind.{Known, form1}
+use Rattle.form_fields.specs.Kind.{form1}
 use Rattle.form_fields.specs.Shape.{bank_count_in, nodes_start_in, node_count_in, rows_start_in, row_count_in, values_start_in, values_size_in, fields_before_in, form_in}
-use Rattle.form_fields.specs.Contents.{Contents}
 use Rattle.form_fields.specs.Laws.Rest.{form-long, form-values}
 use Rattle.form_fields.specs.Faults.{broken_at}
 use Rattle.form_fields.specs.Laws.Faults.{no_run, other}

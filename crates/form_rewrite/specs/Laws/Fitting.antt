@@ -7,7 +7,7 @@ use Rattle.prelude.specs.Laws.Bools.{both, clash}
 use Rattle.prelude.specs.Pick.{pick}
 use Rattle.form_fields.specs.Kind.{form1, form2, is1, is2}
 use Rattle.form_fields.specs.Contents.{Contents, written, Each, Long, BankFits, Fits}
-use Rattle.form_fields.specs.Laws.RoundTrip.{each_map, written-length}
+use Rattle.form_fields.proofs.RoundTripLaws.{each_map, written-length}
 use Rattle.form_rewrite.specs.Turning.{switch_to, is_switch, turned, zeros, bare, shaped, shortened, narrowed}
 
 pub turned-length : (bank : ℕ) (node : List ℕ) → length node ≡ 5 → length (turned bank node) ≡ 5

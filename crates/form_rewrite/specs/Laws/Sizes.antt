@@ -10,7 +10,7 @@ use Rattle.form_fields.specs.Shape.{bank_count_in, nodes_start_in, node_count_in
 use Rattle.form_fields.specs.Laws.Rest.{SoundFile, sound-file}
 use Rattle.form_fields.specs.Laws.Within.{values-within}
 use Rattle.form_fields.specs.Whole.{contents_in}
-use Rattle.form_fields.specs.Laws.Whole.{contents-fit, from-nodes-is, from-values-is, file-is-written, shape_of}
+use Rattle.form_fields.proofs.WholeLaws.{contents-fit, from-nodes-is, from-values-is, file-is-written, shape_of}
 use Rattle.form_fields.specs.Writer.{shape_for}
 use Rattle.form_rewrite.specs.Turning.{alone}
 use Rattle.form_rewrite.specs.Fitting.{Read}

@@ -5,7 +5,7 @@ use Rattle.std.proofs.lemmas.List.{length-map}
 use Rattle.form_fields.specs.Laws.Fields.{by-test}
 use Rattle.form_fields.specs.Kind.{form1, form2, is1, is2}
 use Rattle.form_fields.specs.Contents.{Contents, written, Long, BankFits, Fits}
-use Rattle.form_fields.specs.Laws.RoundTrip.{each_map, written-length}
+use Rattle.form_fields.proofs.RoundTripLaws.{each_map, written-length}
 use Rattle.form_rewrite.specs.Turning.{turned, zeros, lengthened, widened, alone, to_form2, shaped}
 use Rattle.form_rewrite.specs.Turning.{to_form1}
 use Rattle.form_rewrite.specs.Laws.Fitting.{first-bank, first_fits, longer-fits, narrowed-fits, shape-some, shape_two, shortened-fits, turned-length}
@@ -57,7 +57,17 @@ module _ (c : Contents) (fits : Fits form1 c) where
 
   -- Whatever the number of banks.
   pub form2-fits : Fits form2 (to_form2 c)
-  form2-fits = by-test (alone c) (λ e. rw e (widened-fits (eqb-true (length c.banks) 1 e))) (λ e. rw e lengthened-fits)
+  form2-fits = by-test (alone c) (λ e. rw e (of-one (eqb-true (length c.banks) 1 e))) (λ e. rw e lengthened-fits)
+    where
+      of-one : length c.banks ≡ 1 → Fits form2 (widened c)
+      of-one one =
+          let b = first-bank c.banks one fits.of-banks in
+          record {
+            of-banks = (first_fits (get_or c.banks 0 []) b, (longer-fits (get_or c.banks 0 []) b, tt));
+            of-nodes = (refl, each_map (Long 5) (Long 5) (turned 1) (turned-length 1) c.nodes fits.of-nodes);
+            of-rows = each_map (Long (5 * length c.nodes)) (Long (5 * length (widened c).nodes)) (λ (row : List ℕ). zeros 5 ++ row)
+                (λ row e. omega (arith, e, length-append (zeros 5) row, length-map c.nodes (turned 1))) c.rows fits.of-rows;
+          }
 
 pub form1-fits : (c : Contents) → Fits form2 c → Fits form1 (to_form1 c)
 form1-fits c fits =

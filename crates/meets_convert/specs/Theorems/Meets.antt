@@ -8,7 +8,7 @@ use Rattle.form_fields.specs.Contents.{Contents, written}
 use Rattle.form_fields.specs.Kind.{form1, form2}
 use Rattle.form_fields.specs.Shape.{form_in}
 use Rattle.form_fields.specs.Whole.{Bytes, contents_in}
-use Rattle.form_fields.specs.Laws.Whole.{contents-fit}
+use Rattle.form_fields.proofs.WholeLaws.{contents-fit}
 use Rattle.form_convert.specs.Convert.{answer_for, answer_by, out_after, drops_none}
 use Rattle.form_convert.specs.declared.Conversion.{Conversion}
 use Rattle.form_convert.specs.declared.Conversion.TheVariants.{Refused}

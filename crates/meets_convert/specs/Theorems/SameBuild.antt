@@ -24,10 +24,10 @@ use Rattle.form_fields.specs.Laws.Columns.{column-length}
 use Rattle.form_fields.specs.Banks.{opt_of, is_set, bank_of}
 use Rattle.form_fields.specs.Contents.{Contents, written, Fits}
 use Rattle.form_fields.specs.Kind.{form1, form2, is1, is2}
-use Rattle.form_fields.specs.Laws.Parts.{Any, each-any}
+use Rattle.form_fields.proofs.Parts.{Any, each-any}
 use Rattle.form_fields.specs.Whole.{Bytes, contents_in}
 use Rattle.form_fields.specs.Words.{byte, word16, word32, word64}
-use Rattle.form_fields.specs.Laws.Written.{flat-length}
+use Rattle.form_fields.proofs.Written.{flat-length}
 use Rattle.form_rewrite.specs.Turning.{strays, widened, narrowed, shaped, drops_bit, to_form1}
 use Rattle.thm_conversions.specs.Builds.{profile_build}
 use Rattle.thm_conversions.specs.Laws.OneBank.{Single, is-single}

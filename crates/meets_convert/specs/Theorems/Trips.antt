@@ -11,7 +11,7 @@ use Rattle.bankdef.specs.Search.{first_where}
 use Rattle.form_fields.specs.Contents.{Contents, written}
 use Rattle.form_fields.specs.Kind.{form1, form2, is1, is2}
 use Rattle.form_fields.specs.Whole.{Bytes, contents_in}
-use Rattle.form_fields.specs.Theorems.Whole.{contents-back}
+use Rattle.form_fields.proofs.Whole.{contents-back}
 use Rattle.form_convert.specs.Convert.{Converts, stray, out_after, drops_none}
 use Rattle.form_rewrite.specs.Laws.Fitting.{shortened-fits, rest-long, narrowed-long, shape_two, shape-some}
 use Rattle.form_rewrite.specs.Theorems.Fitting.{lengthened-fits, lengthened-long, form1-fits, form2-fits}

@@ -9,11 +9,11 @@ use Rattle.form_fields.specs.Kind.{Known, is1, is2, form1, form2}
 use Rattle.form_fields.specs.Contents as made
 use Rattle.form_fields.specs.Contents.{Contents, flat, bytes16, written, Each, Long, BankFits, Fits}
 use Rattle.form_fields.specs.Laws.Rest.{sound-file}
-use Rattle.form_fields.specs.Laws.RoundTrip.{written-sound}
+use Rattle.form_fields.proofs.RoundTripLaws.{written-sound}
 use Rattle.form_fields.specs.Shape.{form_in}
 use Rattle.form_fields.specs.Whole.{Bytes, contents_in}
-use Rattle.form_fields.specs.Laws.Whole.{contents-fit, file-is-written}
-use Rattle.form_fields.specs.Theorems.Whole.{contents-back}
+use Rattle.form_fields.proofs.WholeLaws.{contents-fit, file-is-written}
+use Rattle.form_fields.proofs.Whole.{contents-back}
 use Rattle.form_fields.specs.Writer.{shape_for}
 use Rattle.says.specs.Files as files
 use Rattle.says.specs.Files.{field, fields, Held, Form, form-1, form-2, longest, bytes, Bank, of-1, of-2, Sound}

@@ -25,8 +25,8 @@ use Rattle.form_fields.specs.Laws.Columns.{column-length}
 use Rattle.form_fields.specs.Kind.{form1, form2, is1, is2}
 use Rattle.form_fields.specs.Contents.{flat, Contents, written, Each, Long, BankFits, Fits}
 use Rattle.form_fields.specs.Has.{Has}
-use Rattle.form_fields.specs.Laws.Parts.{Any, each-any}
-use Rattle.form_fields.specs.Laws.Written.{flat-length}
+use Rattle.form_fields.proofs.Parts.{Any, each-any}
+use Rattle.form_fields.proofs.Written.{flat-length}
 use Rattle.form_build.specs.Filed.{FileBuilt}
 use Rattle.form_build.specs.Paged.{BuiltIn}
 use Rattle.form_rewrite.specs.Turning.{switch_to, is_switch, names_bank, strays, turned, zeros, widened}

@@ -15,8 +15,8 @@ use Rattle.form_fields.specs.Banks.{is_set, opt_of, bank_at, bank_of}
 use Rattle.form_fields.specs.Lists.{cells}
 use Rattle.form_fields.specs.Contents.{field, flat, Each, Long, BankFits}
 use Rattle.form_fields.specs.Has.{Has}
-use Rattle.form_fields.specs.Theorems.Has.{has_left, has_right, field-payload}
-use Rattle.form_fields.specs.Laws.Parts.{has-at, field-long}
+use Rattle.form_fields.proofs.Has.{has_left, has_right, field-payload}
+use Rattle.form_fields.proofs.Parts.{has-at, field-long}
 
 -- ---- numbers inside a part of a file
 

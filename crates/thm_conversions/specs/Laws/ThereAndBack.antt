@@ -9,9 +9,9 @@ use Rattle.form_fields.specs.declared.Form.{Form}
 use Rattle.form_fields.specs.declared.Kind.{Kind}
 use Rattle.form_fields.specs.Kind.{Known, form1}
 use Rattle.form_fields.specs.Contents.{Contents, written, Each, BankFits, Fits}
-use Rattle.form_fields.specs.Laws.RoundTrip.{written-sound}
+use Rattle.form_fields.proofs.RoundTripLaws.{written-sound}
 use Rattle.form_fields.specs.Whole.{contents_in}
-use Rattle.form_fields.specs.Theorems.Whole.{contents-back}
+use Rattle.form_fields.proofs.Whole.{contents-back}
 use Rattle.form_convert.specs.declared.Conversion.{Conversion}
 use Rattle.form_convert.specs.declared.Conversion.TheVariants.{Converted}
 use Rattle.form_rewrite.specs.Turning.{zeros, lengthened, widened, alone, shaped, shortened, narrowed, all_of, bit_clear, drops_bit}

@@ -9,7 +9,7 @@ use Rattle.form_fields.specs.Contents.{Contents, written}
 use Rattle.form_fields.specs.Shape.{form_in}
 use Rattle.form_fields.specs.Laws.Rest.{sound-file}
 use Rattle.form_fields.specs.Whole.{contents_in, Bytes}
-use Rattle.form_fields.specs.Laws.Whole.{contents-fit, file-is-written}
+use Rattle.form_fields.proofs.WholeLaws.{contents-fit, file-is-written}
 use Rattle.form_convert.specs.declared.Conversion.TheVariants.{Converted}
 use Rattle.form_convert.specs.Convert.{stray, answer_for, answer_by, Converts}
 use Rattle.thm_conversions.specs.Conversions.{Turned}

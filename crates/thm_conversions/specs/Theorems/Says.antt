@@ -20,15 +20,15 @@ use Rattle.form_fields.specs.Banks.{bank_at, banks_in, table_of, bank_of}
 use Rattle.form_fields.specs.Lists.{cells, kinds_in, operands_in, numbers_in, states_in, values_by}
 use Rattle.form_fields.specs.Contents.{field, flat, Contents, written, Long, BankFits, Fits}
 use Rattle.form_fields.specs.Has.{Has}
-use Rattle.form_fields.specs.Theorems.Has.{has_left, field-payload}
-use Rattle.form_fields.specs.Laws.Parts.{field-long}
+use Rattle.form_fields.proofs.Has.{has_left, field-payload}
+use Rattle.form_fields.proofs.Parts.{field-long}
 use Rattle.form_fields.specs.Sections.{Begins, Stops}
-use Rattle.form_fields.specs.Laws.Sections.{bank-long, nodes_at, rows_at, values_at, from-banks, from-nodes, from-rows, banks-are, nodes-start, nodes-are}
-use Rattle.form_fields.specs.Laws.Sections.{rows_start, rows_are}
-use Rattle.form_fields.specs.Laws.RoundTrip.{begins, halts, values-field, written-sound}
-use Rattle.form_fields.specs.Theorems.RoundTrip.{written-kind}
+use Rattle.form_fields.proofs.Sections.{bank-long, nodes_at, rows_at, values_at, from-banks, from-nodes, from-rows, banks-are, nodes-start, nodes-are}
+use Rattle.form_fields.proofs.Sections.{rows_start, rows_are}
+use Rattle.form_fields.proofs.RoundTripLaws.{begins, halts, values-field, written-sound}
+use Rattle.form_fields.proofs.RoundTrip.{written-kind}
 use Rattle.form_fields.specs.Writer.{shape_for}
-use Rattle.form_fields.specs.Laws.Written.{column-of}
+use Rattle.form_fields.proofs.Written.{column-of}
 use Rattle.form_build.specs.Filed.{lists_in, choices_of, output_by, file_output, FileBuilt}
 use Rattle.form_build.specs.Paged.{output_in, BuiltIn}
 use Rattle.thm_conversions.specs.Laws.Says.{ReadsIn, bank-read, byte-in, byte_reads, cells_in, column-front, word32-in, word32-reads}

@@ -22,9 +22,9 @@ use Rattle.form_fields.specs.Laws.Columns.{column-length}
 use Rattle.form_fields.specs.Shape.{bank_count_in, nodes_start_in, node_count_in, rows_start_in, row_count_in, values_start_in, values_size_in, limit_start_in, form_in}
 use Rattle.form_fields.specs.Contents.{bytes16, field, flat, Contents, head_bytes, written, Each, Long, BankFits, Fits}
 use Rattle.form_fields.specs.Has.{Has}
-use Rattle.form_fields.specs.Theorems.Has.{field-payload}
+use Rattle.form_fields.proofs.Has.{field-payload}
 use Rattle.form_fields.specs.Laws.Rest.{SoundFile, sound-file}
-use Rattle.form_fields.specs.Laws.RoundTrip.{flat_map, written-sound}
+use Rattle.form_fields.proofs.RoundTripLaws.{flat_map, written-sound}
 use Rattle.form_fields.specs.Writer.{shape_for}
 use Rattle.form_fields.specs.Whole.{Bytes, Field, contents_in, field_bytes, fields_of, file_of, head_fields, part, tagged}
 

@@ -20,16 +20,16 @@ use Rattle.form_fields.specs.Lists.{cells, values_by}
 use Rattle.form_fields.specs.Contents.{field, flat, Contents, head_bytes, written, Each, Long, BankFits, Fits}
 use Rattle.form_fields.specs.Writer.{Node, Cell, Layout, bank_bytes, node_bytes, cell_bytes, contents, Writes, Full, Writable, shape_for, Says}
 use Rattle.form_fields.specs.Has.{Has}
-use Rattle.form_fields.specs.Theorems.Has.{has_left, has_right, has-byte, field-size, field-payload, field-there}
+use Rattle.form_fields.proofs.Has.{has_left, has_right, has-byte, field-size, field-payload, field-there}
 use Rattle.form_fields.specs.Laws.Has.{field-length}
-use Rattle.form_fields.specs.Laws.Parts.{Any, each-any, field-long, bank-fits, bank-back, node-length, row-length, kind-back}
-use Rattle.form_fields.specs.Laws.Parts.{operand-back, cells_of, number-back}
-use Rattle.form_fields.specs.Laws.Parts.{state-back}
+use Rattle.form_fields.proofs.Parts.{Any, each-any, field-long, bank-fits, bank-back, node-length, row-length, kind-back}
+use Rattle.form_fields.proofs.Parts.{operand-back, cells_of, number-back}
+use Rattle.form_fields.proofs.Parts.{state-back}
 use Rattle.form_fields.specs.Laws.Rest.{form-sound}
 use Rattle.form_fields.specs.Sections.{Begins, Stops}
-use Rattle.form_fields.specs.Laws.Sections.{bank-long, head-length, begins-head, nodes_at, rows_at, values_at, has-head, from-banks, from-nodes}
-use Rattle.form_fields.specs.Laws.Sections.{from-rows, from-values, banks-are, nodes-start, nodes-are, rows_start, rows_are, values-start}
-use Rattle.form_fields.specs.Laws.Written.{no_field, flat-length, column-of}
+use Rattle.form_fields.proofs.Sections.{bank-long, head-length, begins-head, nodes_at, rows_at, values_at, has-head, from-banks, from-nodes}
+use Rattle.form_fields.proofs.Sections.{from-rows, from-values, banks-are, nodes-start, nodes-are, rows_start, rows_are, values-start}
+use Rattle.form_fields.proofs.Written.{no_field, flat-length, column-of}
 
 -- a values field is none of the fields that may go before it
 stops-values : {k : Kind} → Known k → (file : List ℕ) (c : Contents) → Has file (values_at k c) (field 4 c.values)

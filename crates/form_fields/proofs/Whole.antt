@@ -8,15 +8,15 @@ use Rattle.form_fields.specs.Kind.{Known}
 use Rattle.form_fields.specs.Columns.{column}
 use Rattle.form_fields.specs.Shape.{row_count_in, form_in}
 use Rattle.form_fields.specs.Contents.{bytes16, field, flat, Contents, written, Long, BankFits, Fits}
-use Rattle.form_fields.specs.Theorems.Has.{has_left}
-use Rattle.form_fields.specs.Laws.Parts.{field-long}
-use Rattle.form_fields.specs.Laws.RoundTrip.{begins, halts, values-field, values-begin, values-long, limit_is, written-sound}
-use Rattle.form_fields.specs.Laws.Sections.{bank-long, nodes_at, rows_at, values_at, from-banks, from-nodes, from-rows, banks-are}
-use Rattle.form_fields.specs.Laws.Sections.{nodes-start, nodes-are, rows_start}
-use Rattle.form_fields.specs.Laws.Sections.{rows_are}
+use Rattle.form_fields.proofs.Has.{has_left}
+use Rattle.form_fields.proofs.Parts.{field-long}
+use Rattle.form_fields.proofs.RoundTripLaws.{begins, halts, values-field, values-begin, values-long, limit_is, written-sound}
+use Rattle.form_fields.proofs.Sections.{bank-long, nodes_at, rows_at, values_at, from-banks, from-nodes, from-rows, banks-are}
+use Rattle.form_fields.proofs.Sections.{nodes-start, nodes-are, rows_start}
+use Rattle.form_fields.proofs.Sections.{rows_are}
 use Rattle.form_fields.specs.Writer.{shape_for}
-use Rattle.form_fields.specs.Laws.Written.{column-of}
-use Rattle.form_fields.specs.Laws.Whole.{contents-fit, fields-written, file-is-written, part_of}
+use Rattle.form_fields.proofs.Written.{column-of}
+use Rattle.form_fields.proofs.WholeLaws.{contents-fit, fields-written, file-is-written, part_of}
 use Rattle.form_fields.specs.Whole.{BrokenOrWritten, Bytes, Field, broken, contents_in, field_bytes, fields_of, file_of, part, written_once}
 
 -- The contents of a file are those that it was written of.

@@ -5,7 +5,7 @@ use Rattle.form_fields.specs.declared.Kind.{Kind}
 use Rattle.form_fields.specs.Kind.{Known, is1, is2, form1, kind_of}
 use Rattle.form_fields.specs.Contents.{Contents, written}
 use Rattle.form_fields.specs.Writer.{Layout, contents, encode, Writable, Says}
-use Rattle.form_fields.specs.Laws.RoundTrip.{begins-not, begins-written, first-tag, says}
+use Rattle.form_fields.proofs.RoundTripLaws.{begins-not, begins-written, first-tag, says}
 
 -- The file of a form is read as that form.
 pub written-kind : {k : Kind} → Known k → (c : Contents) → kind_of (written k c) ≡ k

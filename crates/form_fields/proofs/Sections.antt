@@ -12,9 +12,9 @@ use Rattle.form_fields.specs.Laws.Kind.{known-apart}
 use Rattle.form_fields.specs.Shape.{bank_count_in, nodes_start_in, node_count_in, rows_start_in, row_count_in, values_start_in}
 use Rattle.form_fields.specs.Contents.{bytes16, field, flat, Contents, head_bytes, Long, BankFits}
 use Rattle.form_fields.specs.Has.{Has}
-use Rattle.form_fields.specs.Theorems.Has.{has_left, has_right, has-byte, field-payload, field-there}
-use Rattle.form_fields.specs.Laws.Parts.{field-long, bank-sound, node-sound, row-sound}
-use Rattle.form_fields.specs.Laws.Written.{Other, no_run, flat-skip, run_of}
+use Rattle.form_fields.proofs.Has.{has_left, has_right, has-byte, field-payload, field-there}
+use Rattle.form_fields.proofs.Parts.{field-long, bank-sound, node-sound, row-sound}
+use Rattle.form_fields.proofs.Written.{Other, no_run, flat-skip, run_of}
 use Rattle.form_fields.specs.Sections.{Begins, Stops}
 
 pub bank-long : (k : Kind) (b : List ℕ) → BankFits k b → length (field k.tag b) ≡ 3 + k.bank

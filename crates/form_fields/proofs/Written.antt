@@ -12,7 +12,7 @@ use Rattle.form_fields.specs.Laws.Fields.{field-tag, by-test}
 use Rattle.form_fields.specs.Theorems.Fields.{run-stop, run_more}
 use Rattle.form_fields.specs.Contents.{flat, Each}
 use Rattle.form_fields.specs.Has.{Has}
-use Rattle.form_fields.specs.Theorems.Has.{has_left, has_right, has-byte}
+use Rattle.form_fields.proofs.Has.{has_left, has_right, has-byte}
 
 -- Where another tag stands, no field of this tag does.
 pub no_field : (file : List ℕ) (tag len at t : ℕ) (l : List ℕ) → Has file at (t ∷ l) → (tag ≡ t → ⊥) → sound_at file tag len at ≡ false

@@ -24,9 +24,9 @@ use Rattle.form_fields.specs.Contents.{bytes16, bytes32, bytes64, field, flat, E
 use Rattle.form_fields.specs.Lists.{cells}
 use Rattle.form_fields.specs.Writer.{Node, Cell, number_in, present, filled, flags_of, fill_bytes, bank_bytes, node_bytes, cell_bytes, Writes, Full}
 use Rattle.form_fields.specs.Has.{Has}
-use Rattle.form_fields.specs.Theorems.Has.{has_left, has_right, has-byte, has-word16, has-word32, has-word64, field-payload, field-there}
+use Rattle.form_fields.proofs.Has.{has_left, has_right, has-byte, has-word16, has-word32, has-word64, field-payload, field-there}
 use Rattle.form_fields.specs.Laws.Has.{field-length}
-use Rattle.form_fields.specs.Laws.Written.{flat-length, column-of}
+use Rattle.form_fields.proofs.Written.{flat-length, column-of}
 
 -- ---- fields
 
