@@ -59,8 +59,8 @@ returns-then-fill-gt1-clause-value c =
     lists c.args.kinds.now c.args.operands.now c.args.numbers.now c.args.states.now c.args.rows c.args.values.now in
     (lists-told c.args.banks (given) c.args.fill (c.malformed-then-fill-gt1.ensures ∙ unknown-choice c.args.banks (given) c.args.fill
     c.if-n-gt-MAX_NODES.false c.if-operands-n.false
-    c.if-rows-lt1.false c.if-rows-gt-MAX_ROWS.false
-    c.if-numbers-cells.false c.if-states-cells.false (omega (arith, c.if-fill-gt1.true)))).0
+    (assumption c) (assumption c)
+    (assumption c) (assumption c) (omega (arith, c.if-fill-gt1.true)))).0
 
 pub returns-clause-value : goal.returns-clause-value
 returns-clause-value c =
