@@ -11,7 +11,7 @@ use Rattle.output.specs.Output.{passes_of}
 use Rattle.build_map.specs.Calls.{Call, program_in, row_in, nodes_in, visit_in}
 use Rattle.build_map.specs.Theorems.Calls.{reach-is}
 use Rattle.build_map.specs.Map.{Lent, bank_shown, position_shown, output_shown, size_shown}
-use Rattle.build_map.specs.Theorems.Reached.{ran-checked, none-run, shown-sees}
+use Rattle.build_map.specs.Theorems.Reached.{ran-checked, none-run, shown-few}
 use Rattle.build_map.specs.declared.Reach.{Reach}
 use Rattle.build_map.specs.Laws.Entries.{shown-at, shown-past}
 
@@ -36,7 +36,7 @@ module _ (c : Call) where
 
   -- no more nodes have entries than there are
   pub entries-listed : c.answer.nodes ≤ nodes_in c
-  entries-listed = subst (λ (r : Reach). r.nodes ≤ nodes_in c) (sym (reach-is c)) (shown-sees c.given).few
+  entries-listed = subst (λ (r : Reach). r.nodes ≤ nodes_in c) (sym (reach-is c)) (shown-few c.given)
 
   -- what is lent past the entries stays
   pub past-entries-kept : (i : ℕ) → c.answer.nodes ≤ i

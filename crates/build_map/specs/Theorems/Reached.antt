@@ -97,17 +97,45 @@ module _ (b : Input) where
         walks = subst (λ (n : ℕ). Walks (program b.banks b.lists) (row_of_pass b.lists n) m) (sym e) walks;
       }
 
-  met-sees : (why : Refusal) → settled_of b ≡ Unsettled why → Seen (nodes_met (length b.lists.kinds) why)
-  met-sees why settled = go (eqb (number_of why) 5) refl (eqb (number_of why) 7) refl (eqb (number_of why) 8) refl
+  -- no more nodes are met than there are
+  met-few : (why : Refusal) → settled_of b ≡ Unsettled why → nodes_met (length b.lists.kinds) why ≤ length b.lists.kinds
+  met-few why settled = go (eqb (number_of why) 5) refl (eqb (number_of why) 7) refl (eqb (number_of why) 8) refl
     where
-      past : number_of why ≡ 5 → Seen (node_of why)
-      past e =
+      go : (x : Bool) → eqb (number_of why) 5 ≡ x → (y : Bool) → eqb (number_of why) 7 ≡ y → (z : Bool) → eqb (number_of why) 8 ≡ z
+          → nodes_met (length b.lists.kinds) why ≤ length b.lists.kinds
+      go true e y f z g = let h = (five why settled (eqb-true (number_of why) 5 e)).listed in rw e (omega arith)
+      go false e true f z g = let h = (seven why settled (eqb-true (number_of why) 7 f)).listed in rw (e, f) (omega arith)
+      go false e false f true g = rw (e, f, g) (omega arith)
+      go false e false f false g = rw (e, f, g) (omega arith)
+
+  traced-sees : (k : ℕ) → settled_of b ≡ At k → Seen (traced (closed_of b) (visits_of b (passes_of b))).nodes
+  traced-sees k settled =
+      let row = row_of_pass b.lists (passes_of b) in
+      let few : (traced (closed_of b) (visits_of b (passes_of b))).nodes ≤ length b.lists.kinds =
+      omega (arith, traced-few (closed_of b) (visits_of b (passes_of b)), visits-long (program b.banks b.lists) row (length b.lists.kinds)) in
+      record { few = few; walks = λ j h. sees-in-last b.banks b.lists b.choices k settled j (omega arith) }
+
+  -- No more nodes have an entry than there are.
+  pub shown-few : (reach_of b).nodes ≤ length b.lists.kinds
+  shown-few = by (settled_of b) refl
+    where
+      by : (s : Settled) → settled_of b ≡ s
+          → (settled_reach (closed_of b) (visits_of b (passes_of b)) (length b.lists.kinds) s).nodes ≤ length b.lists.kinds
+      by (At k) e = (traced-sees k e).few
+      by (Unsettled why) e = met-few why e
+
+  -- Each node that has an entry is one of the list's and sees a position in the row of the last pass.
+  pub shown-sees : Seen (reach_of b).nodes
+  shown-sees = by (settled_of b) refl
+    where
+      past : (why : Refusal) → settled_of b ≡ Unsettled why → number_of why ≡ 5 → Seen (node_of why)
+      past why settled e =
           let s = five why settled e in
           seen-in s.pass (node_of why) (figures.run-five (node_of why) s) (let h = s.listed in omega arith)
           (λ j h. let g = s.before j h in (g.now, g.seen))
 
-      off : number_of why ≡ 7 → Seen (suc (node_of why))
-      off e =
+      off : (why : Refusal) → settled_of b ≡ Unsettled why → number_of why ≡ 7 → Seen (suc (node_of why))
+      off why settled e =
           let s = seven why settled e in
           seen-in s.pass (suc (node_of why)) (figures.run-seven (node_of why) s) s.listed
           (λ j h.
@@ -120,30 +148,23 @@ module _ (b : Input) where
             )
           ])
 
-      open-end : number_of why ≡ 8 → Seen (length b.lists.kinds)
-      open-end e =
+      open-end : (why : Refusal) → settled_of b ≡ Unsettled why → number_of why ≡ 8 → Seen (length b.lists.kinds)
+      open-end why settled e =
           let s = eight why settled e in
           seen-in s.pass (length b.lists.kinds) (figures.run-eight s) (omega arith)
           (λ j h. let g = eight-at-end b.banks b.lists b.choices s j h in (g.now, g.seen))
 
-      go : (x : Bool) → eqb (number_of why) 5 ≡ x → (y : Bool) → eqb (number_of why) 7 ≡ y → (z : Bool) → eqb (number_of why) 8 ≡ z
+      go : (why : Refusal) → settled_of b ≡ Unsettled why
+          → (x : Bool) → eqb (number_of why) 5 ≡ x → (y : Bool) → eqb (number_of why) 7 ≡ y → (z : Bool) → eqb (number_of why) 8 ≡ z
           → Seen (pick x (node_of why) (pick y (suc (node_of why)) (pick z (length b.lists.kinds) 0)))
-      go true e y f z g = past (eqb-true (number_of why) 5 e)
-      go false e true f z g = off (eqb-true (number_of why) 7 f)
-      go false e false f true g = open-end (eqb-true (number_of why) 8 g)
-      go false e false f false g = record { few = omega arith; walks = λ j h. absurd (let z : ⊥ = omega arith in z) }
+      go why settled true e y f z g = past why settled (eqb-true (number_of why) 5 e)
+      go why settled false e true f z g = off why settled (eqb-true (number_of why) 7 f)
+      go why settled false e false f true g = open-end why settled (eqb-true (number_of why) 8 g)
+      go why settled false e false f false g = record { few = omega arith; walks = λ j h. absurd (let z : ⊥ = omega arith in z) }
 
-  traced-sees : (k : ℕ) → settled_of b ≡ At k → Seen (traced (closed_of b) (visits_of b (passes_of b))).nodes
-  traced-sees k settled =
-      let row = row_of_pass b.lists (passes_of b) in
-      let few : (traced (closed_of b) (visits_of b (passes_of b))).nodes ≤ length b.lists.kinds =
-      omega (arith, traced-few (closed_of b) (visits_of b (passes_of b)), visits-long (program b.banks b.lists) row (length b.lists.kinds)) in
-      record { few = few; walks = λ j h. sees-in-last b.banks b.lists b.choices k settled j (omega arith) }
+      met-sees : (why : Refusal) → settled_of b ≡ Unsettled why → Seen (nodes_met (length b.lists.kinds) why)
+      met-sees why settled = go why settled (eqb (number_of why) 5) refl (eqb (number_of why) 7) refl (eqb (number_of why) 8) refl
 
-  -- Each node that has an entry is one of the list's and sees a position in the row of the last pass.
-  pub shown-sees : Seen (reach_of b).nodes
-  shown-sees = by (settled_of b) refl
-    where
       by : (s : Settled) → settled_of b ≡ s
           → Seen (settled_reach (closed_of b) (visits_of b (passes_of b)) (length b.lists.kinds) s).nodes
       by (At k) e = traced-sees k e

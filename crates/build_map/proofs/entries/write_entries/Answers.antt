@@ -1,5 +1,4 @@
 use mathlib.Core.Path.{sym}
-use Prim.Native.Nat.{◌-◌}
 use Rattle.nodes.specs.Lists.{Row, row_with}
 use Rattle.resolver.specs.Laws.Walking.{walks-start}
 use Rattle.resolver.specs.Once.{Program, program_with}

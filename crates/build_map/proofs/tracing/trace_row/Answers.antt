@@ -13,5 +13,9 @@ stopped-requires c =
     let seen : List Visit =
     let a = c.args in
     visits (program_with a.banks a.kinds.now a.operands.now a.first.now) (row_with a.numbers.now a.states.now) in
-    omega (arith, c.meet_row-met.ensures.nodes_value, some-walked c.args.closed seen _ _ _ _ c.meet_row-met.ensures.verdict_value c.in-Refused.why
-    c.in-Refused.is)
+    omega (
+      arith,
+      c.meet_row-met.ensures.nodes_value,
+      some-walked c.args.closed seen _ _ _ _ c.meet_row-met.ensures.verdict_value c.in-Refused.why
+          c.in-Refused.is,
+    )
