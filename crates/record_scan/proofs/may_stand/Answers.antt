@@ -10,7 +10,7 @@ pub returns-then-top-eq-UNKNOWN : goal.returns-then-top-eq-UNKNOWN
 returns-then-top-eq-UNKNOWN c =
     -- the pieces given before the line
     let pieces : List Piece =
-        (trail c.args.format c.args.text.now c.args.n).given in
+    (trail c.args.format c.args.text.now c.args.n).given in
     let a = c.args in
     admit-loose a.look a.load (pieces) a.line.kind a.line.address a.line.count a.high a.free.edge
     c.if-line-ne-DATA.false c.if-line-eq0.false (omega arith) c.if-end-gt4294967296.false c.greater.result c.greater.ensures
@@ -20,7 +20,7 @@ pub returns : goal.returns
 returns c =
     -- the pieces given before the line
     let pieces : List Piece =
-        (trail c.args.format c.args.text.now c.args.n).given in
+    (trail c.args.format c.args.text.now c.args.n).given in
     let a = c.args in
     admit-fine a.look a.load (pieces) a.line.kind a.line.address a.line.count a.high a.free.edge
     c.if-line-ne-DATA.false c.if-line-eq0.false (omega arith) c.if-end-gt4294967296.false c.greater-2.result c.room_known-top.result
