@@ -10,7 +10,7 @@ use Rattle.resolver.specs.Layout.{layout_of}
 use Rattle.nodes.specs.Lists.{Lists, lists, lists_of}
 use Rattle.resolver.specs.Passes.{resolution_of}
 use Rattle.resolver.specs.Figures.{Figures}
-use Rattle.resolver.specs.Theorems.RefusedExactly.{layout-figures}
+use Rattle.resolver.proofs.RefusedExactly.{layout-figures}
 use Rattle.resolver.specs.declared.Choices.{Choices}
 use Rattle.resolver.specs.declared.Settled.TheVariants.{Refused as Turned}
 use Rattle.resolver.specs.declared.Resolution.{Resolution}

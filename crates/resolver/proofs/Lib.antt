@@ -1,5 +1,12 @@
 pub mod Accepted
+pub mod Answer
+pub mod Ends
 pub mod Going
+pub mod LastPass
+pub mod LayoutPadding
 pub mod Parts
+pub mod RaisedLimit
+pub mod RefusedExactly
+pub mod Run
 pub mod Settling
 pub mod Unique

@@ -9,7 +9,7 @@ use borrow.Author.Tests.{eq-eqb, ne_eqb, lt-ltb, le-ltb}
 use Rattle.prelude.specs.declared.Refusal.{Refusal}
 use Rattle.resolver.specs.Passes.{pass_k, last_of, settled_by}
 use Rattle.resolver.specs.Ends.{Unsettled}
-use Rattle.resolver.specs.Laws.Ends.{settles, unsettled-below, K-at}
+use Rattle.resolver.proofs.Ends.{settles, unsettled-below, K-at}
 use Rattle.resolver.specs.Laws.Least.{or-past, first-from}
 use Rattle.resolver.specs.declared.Pass.{Pass}
 use Rattle.resolver.specs.declared.Pass.TheVariants.{State, Refused as Failed}

@@ -1,5 +1,3 @@
-pub mod Answer
-pub mod Ends
 pub mod FirstRow
 pub mod LabelStates
 pub mod Labels

@@ -6,7 +6,7 @@ use Rattle.iter.specs.declared.Moved.{Moved}
 use Rattle.iter.specs.declared.Moved.TheVariants.{To}
 use Rattle.iter.specs.declared.Pos.{Pos}
 use Rattle.nodes.specs.Lists.{Row}
-use Rattle.resolver.specs.Once.{Program, on, off, node, bank_of, step_at, walk_to}
+use Rattle.resolver.specs.Once.{Program, node, bank_of, step_at, walk_to}
 
 module _ (p : Program) (row : Row) where
   -- the position that node i sees in the row's walk, or what stops the walk there

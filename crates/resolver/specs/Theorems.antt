@@ -2,8 +2,6 @@ pub mod Chosen
 pub mod FirstRow
 pub mod LabelStates
 pub mod Labels
-pub mod LastPass
-pub mod LayoutPadding
 pub mod Least
 pub mod Listed
 pub mod ListsExactly
@@ -13,9 +11,6 @@ pub mod OneWalk
 pub mod Padding
 pub mod PassStates
 pub mod PositionPast
-pub mod RaisedLimit
-pub mod RefusedExactly
-pub mod Run
 pub mod Switches
 pub mod Unread
 pub mod UnreadStep

@@ -11,14 +11,14 @@ use Rattle.bankdef.specs.Check.{check_of}
 use Rattle.iter.specs.declared.Moved.TheVariants.{To}
 use Rattle.iter.specs.declared.Pos.{Pos}
 use Rattle.resolver.specs.Figures.{Figures, PastFirst, OffInLast, LastUnresolved}
-use Rattle.resolver.specs.Theorems.LastPass.{accepted-checked, sees-in-last}
+use Rattle.resolver.proofs.LastPass.{accepted-checked, sees-in-last}
 use Rattle.resolver.specs.Layout.{unless, layout_of, Checked}
 use Rattle.nodes.specs.Lists.{lists_of}
 use Rattle.resolver.specs.NodeOrder.{seen_at}
 use Rattle.resolver.specs.Laws.Padding.{Walks}
 use Rattle.resolver.specs.Passes.{program, row_of_pass, pass_at, resolution_of}
-use Rattle.resolver.specs.Theorems.RefusedExactly.{checked-passes, eight-at-end, layout-figures}
-use Rattle.resolver.specs.Theorems.Run.{passes-bounded}
+use Rattle.resolver.proofs.RefusedExactly.{checked-passes, eight-at-end, layout-figures}
+use Rattle.resolver.proofs.Run.{passes-bounded}
 use Rattle.resolver.specs.Told.{told_settled}
 use Rattle.resolver.specs.declared.Resolution.{Resolution}
 use Rattle.resolver.specs.declared.Settled.{Settled}

@@ -7,7 +7,7 @@ use Rattle.prelude.specs.declared.Refusal.{Refusal}
 use Rattle.prelude.specs.declared.Refusal.TheVariants.{LabelOffBoundary}
 use Rattle.bitvec.specs.Lists.{list_of}
 use Rattle.resolver.specs.Figures.{OffInLast}
-use Rattle.resolver.specs.Theorems.RefusedExactly.{seven-exactly}
+use Rattle.resolver.proofs.RefusedExactly.{seven-exactly}
 use Rattle.resolver.specs.Laws.Told.{by-figures}
 use Rattle.resolver.specs.declared.Settled.{Settled}
 use Rattle.resolver.specs.declared.Settled.TheVariants.{Refused as Unsettled}

@@ -17,7 +17,7 @@ use Rattle.bankdef.specs.declared.Bankdefs.{Bankdefs}
 use Rattle.iter.specs.declared.Moved.{Moved}
 use Rattle.iter.specs.declared.Moved.TheVariants.{To, Refused as Stopped}
 use Rattle.iter.specs.declared.Pos.{Pos}
-use Rattle.resolver.specs.Laws.Ends.{Ending, early, last, ends}
+use Rattle.resolver.proofs.Ends.{Ending, early, last, ends}
 use Rattle.resolver.specs.Layout.{unless, layout_of}
 use Rattle.nodes.specs.Kinds.{size_of}
 use Rattle.nodes.specs.Lists.{Lists, Row, lists_of, first_of}

@@ -9,10 +9,10 @@ use Rattle.prelude.specs.declared.Place.TheVariants.{One}
 use Rattle.prelude.specs.declared.Refusal.{Refusal}
 use Rattle.prelude.specs.declared.Refusal.TheVariants.{Unresolved as EndedUnresolved}
 use Rattle.bankdef.specs.declared.Bankdefs.{Bankdefs}
-use Rattle.resolver.specs.Laws.Ends as end
+use Rattle.resolver.proofs.Ends as end
 use Rattle.resolver.specs.Ends as end-words
 use Rattle.resolver.specs.Ends.{Unsettled, RunsBefore, RunsLast, SettlesBelow}
-use Rattle.resolver.specs.Laws.Ends.{Ending, ends, settled-below, settled-limit}
+use Rattle.resolver.proofs.Ends.{Ending, ends, settled-below, settled-limit}
 use Rattle.resolver.specs.Theorems.LabelStates.{before-ran}
 use Rattle.resolver.specs.Layout.{Checked}
 use Rattle.resolver.specs.Theorems.NodeOrder.{ran-to-end, first-met}

@@ -14,7 +14,7 @@ use Rattle.overlap_checker.specs.State.{State}
 use Rattle.overlap_checker.specs.Folds.{state_after}
 use Rattle.resolver.specs.Layout.{Checked}
 use Rattle.resolver.specs.Passes.{resolution_of}
-use Rattle.resolver.specs.Theorems.RefusedExactly.{checked-passes}
+use Rattle.resolver.proofs.RefusedExactly.{checked-passes}
 use Rattle.resolver.specs.declared.Resolution.{Resolution}
 use Rattle.resolver.specs.declared.Settled.TheVariants.{At, Refused as Unsettled}
 use Rattle.build_plan.specs.Placing.{Placed, holds, stops, placed_if, placed_all, offer_of}

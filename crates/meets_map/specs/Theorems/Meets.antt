@@ -15,7 +15,7 @@ use Rattle.resolver.specs.Laws.RefusedExactly.{table-number, lists-four}
 use Rattle.resolver.specs.Layout.{Checked, layout_of}
 use Rattle.resolver.specs.Once.{Program}
 use Rattle.resolver.specs.Padding.{sum_in}
-use Rattle.resolver.specs.Theorems.RefusedExactly.{table-first, lists-next}
+use Rattle.resolver.proofs.RefusedExactly.{table-first, lists-next}
 use Rattle.resolver.specs.declared.Resolution.{Resolution}
 use Rattle.resolver.specs.declared.Settled.{Settled}
 use Rattle.resolver.specs.declared.Settled.TheVariants.{At, Refused as Unsettled}

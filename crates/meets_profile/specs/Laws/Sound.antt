@@ -16,7 +16,7 @@ use Rattle.output.specs.declared.Output.{Output}
 use Rattle.build_paged.specs.InProfile.{leaves}
 use Rattle.resolver.specs.Layout.{Checked, layout_of}
 use Rattle.resolver.specs.Passes.{pass_at, resolution_of}
-use Rattle.resolver.specs.Theorems.Run.{passes-bounded}
+use Rattle.resolver.proofs.Run.{passes-bounded}
 use Rattle.resolver.specs.declared.Choices.{Choices}
 use Rattle.c_tables.specs.Tables.{choices_by}
 use Rattle.c_answers.specs.Told.{build_told, layout_told}

@@ -9,7 +9,7 @@ use Rattle.prelude.specs.declared.Verdict.TheVariants.{Accepted, Refused}
 use Rattle.bankdef.specs.Check.{check_of}
 use Rattle.nodes.specs.Lists.{lists_of, first_of}
 use Rattle.resolver.specs.Layout.{Checked, layout_of}
-use Rattle.resolver.specs.Theorems.RefusedExactly.{table-first, lists-next}
+use Rattle.resolver.proofs.RefusedExactly.{table-first, lists-next}
 use Rattle.resolver.specs.declared.Resolution.{Resolution}
 use Rattle.resolver.specs.declared.Settled.TheVariants.{Refused as Unsettled}
 use Rattle.build_profile.specs.Profile.{verdict_of}

@@ -8,7 +8,7 @@ use Rattle.prelude.specs.declared.Refusal.{Refusal}
 use Rattle.prelude.specs.declared.Refusal.TheVariants.{TooShort}
 use Rattle.prelude.specs.declared.Verdict.TheVariants.{Accepted as Yes}
 use Rattle.bankdef.specs.Check.{check_of}
-use Rattle.resolver.specs.Theorems.LastPass.{accepted-checked}
+use Rattle.resolver.proofs.LastPass.{accepted-checked}
 use Rattle.resolver.specs.Passes.{row_of_pass}
 use Rattle.resolver.specs.declared.Settled.{Settled}
 use Rattle.resolver.specs.declared.Settled.TheVariants.{At, Refused as Unsettled}

@@ -4,7 +4,7 @@ use Rattle.std.proofs.Common.{sym, ◌∙◌}
 use Rattle.std.proofs.Math.Path.{ap}
 use Rattle.resolver.specs.Layout.{layout_of}
 use Rattle.resolver.specs.Passes.{program, row_of_pass}
-use Rattle.resolver.specs.Theorems.RaisedLimit.{same-for-limits-above}
+use Rattle.resolver.proofs.RaisedLimit.{same-for-limits-above}
 use Rattle.resolver.specs.declared.Resolution.{Resolution}
 use Rattle.resolver.specs.declared.Settled.{Settled}
 use Rattle.resolver.specs.declared.Settled.TheVariants.{At, Refused as Unsettled}

@@ -4,7 +4,7 @@ use Rattle.std.specs.Prelude.{◌≡◌, ℕ, ◌<◌}
 use Rattle.std.proofs.Common.{sym, subst}
 use Rattle.iter.specs.declared.Moved.TheVariants.{To}
 use Rattle.iter.specs.declared.Pos.{Pos}
-use Rattle.resolver.specs.Theorems.LastPass.{sees-in-last}
+use Rattle.resolver.proofs.LastPass.{sees-in-last}
 use Rattle.resolver.specs.Passes.{row_of_pass}
 use Rattle.resolver.specs.declared.Settled.TheVariants.{At}
 use Rattle.overlap_checker.specs.State.{State}

@@ -21,7 +21,7 @@ use Rattle.iter.specs.declared.Moved.TheVariants.{To, Refused as Stopped}
 use Rattle.nodes.specs.Kinds.{size_of}
 use Rattle.nodes.specs.declared.Node.{Node}
 use Rattle.iter.specs.declared.Pos.{Pos}
-use Rattle.resolver.specs.Laws.Ends.{Ending, early, last, ends}
+use Rattle.resolver.proofs.Ends.{Ending, early, last, ends}
 use Rattle.resolver.specs.Layout.{unless, layout_of}
 use Rattle.nodes.specs.Lists.{Lists, Row, lists_of, nodes_to, node_fault, known_fill, node_count_sound, row_count_sound, first_of}
 use Rattle.resolver.specs.Theorems.NodeOrder.{StopsAt, first-met}

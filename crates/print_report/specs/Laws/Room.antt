@@ -11,7 +11,7 @@ use Rattle.prelude.specs.declared.Place.TheVariants.{One, Two}
 use Rattle.prelude.specs.declared.Refusal.{Refusal}
 use Rattle.prelude.specs.declared.Refusal.TheVariants.{TooShort as ShortOf}
 use Rattle.bitvec.specs.Bits.{Bytes}
-use Rattle.resolver.specs.Laws.Answer.{accepted-layout}
+use Rattle.resolver.proofs.Answer.{accepted-layout}
 use Rattle.resolver.specs.declared.Settled.{Settled}
 use Rattle.resolver.specs.declared.Settled.TheVariants.{At, Refused as Unsettled}
 use Rattle.build_visits.specs.Items.{items_of, length_of}

@@ -1,5 +1,5 @@
 -- Laws that proofs about Stands need.
-use Rattle.std.specs.Prelude.{ℕ, zero, suc, ◌+◌, ◌^◌, ◌<◌, ◌≡◌, refl, eqb, leb, get_or, replicate, length}
+use Rattle.std.specs.Prelude.{ℕ, zero, suc, ◌+◌, ◌^◌, ◌<◌, ◌≡◌, refl, eqb, leb, get_or, length}
 use Rattle.std.proofs.Common.{sym, ◌∙◌, arith, eqb-true, leb-true}
 use Rattle.std.proofs.Math.Path.{ap}
 use mathlib.Core.List.{List, [], ◌∷◌}

@@ -1,6 +1,6 @@
 -- After the checks of the banks and of the lists no pass gives 4: each node stands in a bank of the table, whose addresses can be told, and its
 -- kind and its state are sound.
-use Rattle.std.specs.Prelude.{ℕ, ◌<◌, ◌≤◌, ◌≡◌, Bool, ◌&&◌, eqb, leb, ltb, get_or, length}
+use Rattle.std.specs.Prelude.{ℕ, ◌<◌, ◌≤◌, ◌≡◌, Bool, ◌&&◌, eqb, leb, get_or, length}
 use Rattle.std.proofs.Common.{ltb-false}
 use Rattle.prelude.specs.Refusals.{number_of}
 use Rattle.prelude.specs.declared.Refusal.{Refusal}

@@ -1,5 +1,5 @@
 -- Theorems about what PositionPast defines.
-use Rattle.std.specs.Prelude.{ℕ, zero, suc, ◌<◌, ◌≤◌, ◌≡◌, Bool, true, false, ◌&&◌, ◌↔◌, eqb, leb, ltb, get_or, length}
+use Rattle.std.specs.Prelude.{ℕ, zero, suc, ◌<◌, ◌≤◌, ◌≡◌, Bool, true, false, ◌&&◌, ◌↔◌, eqb, leb, get_or, length}
 use Rattle.std.proofs.Common.{arith, eq-eqb, leb-false, eqb-true, le-ltb, leb-true}
 use Rattle.std.proofs.lemmas.Bool.{lt-leb}
 use Rattle.prelude.specs.Limits.{max_banks}
@@ -7,7 +7,6 @@ use Rattle.prelude.specs.declared.Refusal.TheVariants.{PositionPast}
 use Rattle.prelude.specs.Laws.Bools.{either, neither}
 use Rattle.bankdef.specs.Theorems.Refused.{accepted}
 use Rattle.bankdef.specs.declared.Bankdefs.{Bankdefs}
-use Rattle.iter.specs.Laws.Advance.{outside}
 use Rattle.iter.specs.Step.{bad_state, bank_after, malformed}
 use Rattle.iter.specs.declared.Moved.TheVariants.{Refused as Stopped}
 use Rattle.nodes.specs.Kinds.{is_unknown}

@@ -1,5 +1,5 @@
 -- Theorems about what Switches defines.
-use Rattle.std.specs.Prelude.{ℕ, ◌<◌, ◌≤◌, ◌≡◌, false, ◌&&◌, eqb, ltb, leb, get_or, length}
+use Rattle.std.specs.Prelude.{ℕ, ◌<◌, ◌≤◌, ◌≡◌, false, ◌&&◌, eqb, leb, get_or, length}
 use Rattle.std.proofs.Common.{sym, ◌∙◌, ⊎_elim, arith, leb-false, eq-eqb}
 use Rattle.std.proofs.Math.ListN.{get_or-eq_default}
 use Rattle.prelude.specs.Laws.Bools.{neither}

@@ -16,7 +16,7 @@ use Rattle.bankdef.specs.declared.Bankdef.{Bankdef}
 use Rattle.bankdef.specs.declared.Bankdefs.{Bankdefs}
 use Rattle.iter.specs.Step.{no_lost}
 use Rattle.iter.specs.declared.Lost.{Lost}
-use Rattle.resolver.specs.Theorems.LastPass.{accepted-checked}
+use Rattle.resolver.proofs.LastPass.{accepted-checked}
 use Rattle.resolver.specs.Layout.{unless, layout_of}
 use Rattle.nodes.specs.Lists.{Lists, Row, row_count_sound, known_fill, lists_of}
 use Rattle.resolver.specs.Once.{Program, bank_record}

@@ -8,7 +8,7 @@ use Rattle.bankdef.specs.declared.Bankdefs.{Bankdefs}
 use Rattle.resolver.specs.Layout.{unless, layout_of}
 use Rattle.nodes.specs.Lists.{Lists, lists_of}
 use Rattle.resolver.specs.Passes.{pass_at, resolution_of}
-use Rattle.resolver.specs.Theorems.Run.{Counted, accepted-passes}
+use Rattle.resolver.proofs.Run.{Counted, accepted-passes}
 use Rattle.resolver.specs.declared.Choices.{Choices}
 use Rattle.resolver.specs.declared.Settled.TheVariants.{At}
 use Rattle.resolver.specs.declared.Resolution.{Resolution}

@@ -1,7 +1,7 @@
 -- Refusals 4, 5, 7 and 8 of a layout and its K, each exactly when document 01 gives it, told by number and place. "Then each pass in node order
 -- meets 5, 6 and 7, and 8 at its end": a layout that passes its checks is refused at the first node that a pass meets one at, in the first pass
 -- that does, and for 8 only where the last pass has gone past every node.
-use Rattle.std.specs.Prelude.{ℕ, zero, ◌+◌, ◌-◌, ◌<◌, ◌≤◌, ◌≡◌, Bool, true, false, ◌⊎◌, ◌↔◌, eqb, length}
+use Rattle.std.specs.Prelude.{ℕ, ◌+◌, ◌-◌, ◌<◌, ◌≤◌, ◌≡◌, Bool, true, false, ◌⊎◌, ◌↔◌, eqb, length}
 use Rattle.std.proofs.Math.Path.{refl, ap}
 use Rattle.std.proofs.Common.{sym, ◌∙◌, subst, inl, inr, ⊎_elim, arith, eqb-true, lt-ltb}
 use Rattle.std.proofs.lemmas.Bool.{eqb-false}
@@ -17,19 +17,18 @@ use Rattle.prelude.specs.declared.Refusal.TheVariants.{Malformed, PositionPast, 
 use Rattle.prelude.specs.declared.Verdict.{Verdict}
 use Rattle.prelude.specs.declared.Verdict.TheVariants.{Accepted, Refused as TurnedAway}
 use Rattle.bankdef.specs.Check.{check_of}
-use Rattle.bankdef.specs.Refused.{count}
 use Rattle.bankdef.specs.Theorems.Refused.{decided}
 use Rattle.bankdef.specs.declared.Bankdefs.{Bankdefs}
 use Rattle.iter.specs.declared.Moved.TheVariants.{Refused as Stopped}
 use Rattle.resolver.specs.Ends.{Runs, RunsLast, SettlesBelow}
-use Rattle.resolver.specs.Laws.Ends.{Ending, early}
-use Rattle.resolver.specs.Laws.Ends.{last, ends, last-decides, refused-before, settled-below, settled-limit}
-use Rattle.resolver.specs.Laws.Answer.{accepted-layout}
+use Rattle.resolver.proofs.Ends.{Ending, early}
+use Rattle.resolver.proofs.Ends.{last, ends, last-decides, refused-before, settled-below, settled-limit}
+use Rattle.resolver.proofs.Answer.{accepted-layout}
 use Rattle.resolver.specs.Figures.{PastFirst, OffInLast, LastUnresolved, SettlesAt, Figures}
 use Rattle.resolver.specs.Layout.{unless, layout_of, Checked}
 use Rattle.resolver.specs.Theorems.NeverFour.{never-four}
 use Rattle.resolver.specs.Run.{Settles}
-use Rattle.resolver.specs.Theorems.Run.{at_zero}
+use Rattle.resolver.proofs.Run.{at_zero}
 use Rattle.resolver.specs.Theorems.PositionPast.{five-met-exactly}
 use Rattle.nodes.specs.Lists.{Lists, lists_of}
 use Rattle.resolver.specs.NodeOrder.{seen_at, OffBoundary, GoesPast}

@@ -6,7 +6,7 @@ use Rattle.prelude.specs.declared.Refusal.{Refusal}
 use Rattle.resolver.specs.Laws.Least.{first-at, first-from}
 use Rattle.resolver.specs.Theorems.Least.{K-counts, K-settles}
 use Rattle.resolver.specs.Passes.{unresolved, pass_k, last_of, after_k, settled_by}
-use Rattle.resolver.specs.Theorems.Run.{at_zero, K-below, K-not-below, by-ways, unresolved-before}
+use Rattle.resolver.proofs.Run.{at_zero, K-below, K-not-below, by-ways, unresolved-before}
 use Rattle.resolver.specs.declared.Pass.{Pass}
 use Rattle.resolver.specs.declared.Pass.TheVariants.{State, Refused as Failed}
 use Rattle.resolver.specs.declared.Settled.TheVariants.{Refused}

@@ -6,9 +6,9 @@ use Rattle.bankdef.specs.Check.{first_pair}
 use Rattle.bankdef.specs.Search.{first_where}
 use Rattle.bankdef.specs.declared.Bankdefs.{Bankdefs}
 use Rattle.iter.specs.Step.{start_of, seen_of, moved_on, advanced_of, step_of}
-use Rattle.resolver.specs.Laws.Answer.{accepted-layout, layout-passes}
+use Rattle.resolver.proofs.Answer.{accepted-layout, layout-passes}
 use Rattle.resolver.specs.Cases.{one_bank, settled_at}
-use Rattle.resolver.specs.Laws.Ends.{settled-below}
+use Rattle.resolver.proofs.Ends.{settled-below}
 use Rattle.resolver.specs.Layout.{by_default, with_limit, layout_of}
 use Rattle.nodes.specs.Lists.{Lists, nodes_to, any_row_fault, lists_of}
 use Rattle.resolver.specs.Once.{walk_to, pass_to}

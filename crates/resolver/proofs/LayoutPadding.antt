@@ -9,15 +9,15 @@ use Rattle.iter.specs.Step.{origin, no_lost, start_of, seen_of, moved_on, advanc
 use Rattle.resolver.specs.Cases.{one_bank}
 use Rattle.resolver.specs.KnownInPass.{bank_at}
 use Rattle.resolver.specs.LastPass.{last_row}
-use Rattle.resolver.specs.Theorems.LastPass.{accepted-checked, sees-in-last}
+use Rattle.resolver.proofs.LastPass.{accepted-checked, sees-in-last}
 use Rattle.resolver.specs.Layout.{with_limit, layout_of}
-use Rattle.nodes.specs.Lists.{Lists, Row, lists}
-use Rattle.resolver.specs.Once.{Program, walk_to}
+use Rattle.nodes.specs.Lists.{Lists, Row}
+use Rattle.resolver.specs.Once.{walk_to}
 use Rattle.resolver.specs.Padding.{sum_in, padding_of}
 use Rattle.resolver.specs.Laws.Padding.{sizes_to}
 use Rattle.resolver.specs.Theorems.Padding.{padding-bounded, walk-carries-padding, ends-at-sizes-and-padding}
 use Rattle.resolver.specs.Passes.{program, row_of_pass}
-use Rattle.resolver.specs.Theorems.RaisedLimit.{same-row-above}
+use Rattle.resolver.proofs.RaisedLimit.{same-row-above}
 use Rattle.nodes.specs.Theorems.Sound.{accepted-lists}
 use Rattle.resolver.specs.declared.Choices.{Choices}
 use Rattle.resolver.specs.declared.Settled.TheVariants.{At}

@@ -3,13 +3,13 @@ use Rattle.std.specs.Prelude.{ℕ, ◌-◌, ◌<◌, ◌≡◌, true, eqb, lengt
 use Rattle.bankdef.specs.declared.Bankdefs.{Bankdefs}
 use Rattle.iter.specs.declared.Moved.TheVariants.{To}
 use Rattle.iter.specs.declared.Pos.{Pos}
-use Rattle.resolver.specs.Laws.Answer.{accepted-layout}
+use Rattle.resolver.proofs.Answer.{accepted-layout}
 use Rattle.resolver.specs.Layout.{layout_of, Checked}
 use Rattle.nodes.specs.Lists.{Lists}
 use Rattle.resolver.specs.NodeOrder.{seen_at, GoesPast}
 use Rattle.resolver.specs.Theorems.NodeOrder.{ran-to-end}
 use Rattle.resolver.specs.Passes.{program, row_of_pass}
-use Rattle.resolver.specs.Theorems.RefusedExactly.{checked-of}
+use Rattle.resolver.proofs.RefusedExactly.{checked-of}
 use Rattle.resolver.specs.declared.Choices.{Choices}
 use Rattle.resolver.specs.declared.Settled.TheVariants.{At}
 use Rattle.resolver.specs.LastPass.{last_row}
