@@ -2,7 +2,7 @@
 -- outcome. A node that is shown stands in a bank of the table, so that its address is told; a node at fault is one of the list's.
 use Rattle.std.specs.Prelude.{◌≡◌, refl, Bool, true, false, List, [], ◌∷◌, map, eqb, ltb, ℤ, pos, ◌+ℤ◌, length}
 use Rattle.std.proofs.Common.{sym, ap, subst, ◌∙◌, arith, eqb-true}
-use Prim.Native.Nat.{ℕ, zero, suc, ◌-◌, ◌/◌, ◌≤◌, ◌<◌, min}
+use Prim.Native.Nat.{ℕ, ◌-◌, ◌/◌, ◌≤◌, ◌<◌, min}
 use Rattle.std.proofs.lemmas.Bool.{eqb-false}
 use Rattle.prelude.specs.Laws.Bools.{either, unlike}
 use Rattle.prelude.specs.Refusals.{number_of, place_of}
@@ -37,12 +37,12 @@ use Rattle.print_text.specs.Ascii.{ascii}
 use Rattle.print_text.specs.Lines.{place_numbers, line}
 use Rattle.print_map.specs.Cells as made
 use Rattle.print_map.specs.Cells.{line_of, signed}
-use Rattle.print_map.specs.Text.{address_cell, word_cell, node_line, nodes_text, fault_text, place_cells, refused_text, verdict_text}
+use Rattle.print_map.specs.Text.{address_cell, word_cell, node_line, fault_text, place_cells, refused_text, verdict_text}
 use Rattle.says.specs.Build.{Given, nodes, kind, unit, start}
 use Rattle.says.specs.Lines.{Line}
 use Rattle.says.specs.Map.{Lent, Outcome, no_node}
 use Rattle.says.specs.MapText as says
-use Rattle.says.specs.MapText.{Cell, Optional, Word, Whole, NodeLine, NodeLines, FaultLine, Verdict as Ends}
+use Rattle.says.specs.MapText.{Cell, Optional, Word, Whole, NodeLine, FaultLine, Verdict as Ends}
 use Rattle.meets_sentences.specs.Typed.{Typed}
 use Rattle.meets_build.specs.Laws.Contract.{input_of}
 use Rattle.meets_build.specs.Laws.Shown.{Shown, Tells, listed, walked}
@@ -172,27 +172,20 @@ module _ (g : Given) (typed : Typed g) (old : Lent) (places : Places old) where
         ap (λ (z : ℤ). z +ℤ pos (q / def.unit)) tells.of-start ∙ ap (λ (u : ℕ). start g k +ℤ pos (q / u)) tells.of-unit in
         (w.0, w.1, w.2 ∙ sym (ap address_cell (address-when def q i tells.told) ∙ ap signed there))
 
-  columns-same : (i k q : ℕ) {e e' : ℕ} (a o : Cell) {a' o' : made.Cell} → as_made a ≡ a' → as_made o ≡ o' → e' ≡ e
+  -- where the columns of a node's line are what its record shows, the line says it
+  pub node-meets : ((i k q e e' : ℕ) (a o : Cell) (a' o' : made.Cell) → as_made a ≡ a' → as_made o ≡ o' → e' ≡ e
       → map as_made (says.number i ∷ says.number (kind g i) ∷ says.number k ∷ says.number q ∷ a ∷ o ∷ says.number e ∷ [])
-      ≡ made.number i ∷ made.number (kind g i) ∷ made.number k ∷ made.number q ∷ a' ∷ o' ∷ made.number e' ∷ []
-  columns-same i k q a o ea eo ee = rw (ea, eo, ee)
-
-  node-meets : (i : ℕ) → i < count
+      ≡ made.number i ∷ made.number (kind g i) ∷ made.number k ∷ made.number q ∷ a' ∷ o' ∷ made.number e' ∷ []) → (i : ℕ) → i < count
       → NodeLine g y.lent i (node_line (table g) i (kind g i) (bank_shown p row i) (position_shown p row i) (output_shown p row i) (size_shown p row i))
   unfolding map_of
-  node-meets i h =
+  node-meets columns i h =
       let a = address-column i h in
       let o = word-column (output_shown p row i) in
       let out = shown-at count (output_shown p row) old.outputs i h in
       says.node (sym (shown-at count (bank_shown p row) old.banks i h)) (sym (shown-at count (position_shown p row) old.positions i h)) a.1
       (subst (λ (w : ℕ). Optional (Word w) o.0) (sym out) o.1)
       (record-meets (ascii "node") _ _
-      (columns-same i (bank_shown p row i) (position_shown p row i) a.0 o.0 a.2 o.2 (sym (shown-at count (size_shown p row) old.sizes i h))))
-
-  pub nodes-meet : (n : ℕ) → n ≤ count → NodeLines g y.lent n (nodes_text p row n)
-  unfolding nodes_text
-  nodes-meet zero h = says.no-node
-  nodes-meet (suc i) h = says.more (nodes-meet i (omega (arith, h))) (node-meets i h)
+      (columns i (bank_shown p row i) (position_shown p row i) _ _ a.0 o.0 _ _ a.2 o.2 (sym (shown-at count (size_shown p row) old.sizes i h))))
 
   -- ---- the node at fault
 

@@ -1,6 +1,7 @@
 -- What the map's program prints for a file, by the definitions, says the sentences: a broken file is its refusal's line; of a sound one it is the text of the
 -- outcome of `dk_map` (`map-meets`), in the profile where there is a page size, whatever the lists that are lent hold.
-use Rattle.std.specs.Prelude.{◌≡◌, refl, List, [], ◌∷◌, ◌++◌, ℕ, ◌≤◌, ◌<◌, min, length, get_or, replicate}
+use Rattle.std.specs.Prelude.{◌≡◌, refl, List, [], ◌∷◌, ◌++◌, map, min, length, get_or, replicate}
+use Prim.Native.Nat.{ℕ, zero, suc, ◌≤◌, ◌<◌}
 use Rattle.std.proofs.Math.Path.{sym, subst}
 use Rattle.std.proofs.Common.{◌∙◌, arith}
 use Rattle.prelude.specs.Theorems.Told.{number-some}
@@ -17,10 +18,12 @@ use Rattle.form_fields.specs.declared.Shape.{Shape}
 use Rattle.form_fields.specs.Laws.Columns.{column-length}
 use Rattle.form_fields.specs.Shape.{shape_in, form_of}
 use Rattle.form_fields.specs.Whole.{Bytes, contents_in}
+use Rattle.resolver.specs.Passes.{row_of_pass}
 use Rattle.output.specs.Output.{Input}
 use Rattle.build_map.specs.Map.{map_of}
 use Rattle.c_answers.specs.Maps.{ToldBy, node_told}
 use Rattle.print_text.specs.Ascii.{ascii}
+use Rattle.print_map.specs.Cells as made
 use Rattle.print_map.specs.Text.{file_line, nodes_text, said_in, map_after, map_in, layout_text, verdict_text, text_by, map_text}
 use Rattle.says.specs.Build as build
 use Rattle.says.specs.Build.{Given, banks, flag, nodes}
@@ -29,9 +32,10 @@ use Rattle.says.specs.Files.{Form, form-1, form-2, Sound, Bank}
 use Rattle.says.specs.Lines.{Line}
 use Rattle.says.specs.Map.{Lent, Outcome, refusal, Mapped, MapSays}
 use Rattle.says.specs.MapText as says
-use Rattle.says.specs.MapText.{form_number, BankLines, NodeLines, FaultLine, Prints, LaidSays, MapText}
+use Rattle.says.specs.MapText.{Cell, form_number, BankLines, NodeLines, FaultLine, Prints, LaidSays, MapText}
 use Rattle.meets_sentences.specs.Typed.{Typed}
 use Rattle.meets_build.specs.Laws.Contract.{input_of}
+use Rattle.meets_build.specs.Laws.Shown.{listed, walked}
 use Rattle.meets_build.specs.Laws.Table.{table}
 use Rattle.meets_form.specs.Laws.FileSo as so
 use Rattle.meets_form.specs.Laws.FileSo.{FileSo, file-so}
@@ -45,8 +49,8 @@ use Rattle.meets_profile.specs.Laws.Tried.{cleared}
 use Rattle.meets_profile.specs.Laws.Verdicts.{told_as, verdict-says}
 use Rattle.meets_report.specs.Laws.Shown.{numbers-meet}
 use Rattle.meets_map_text.specs.Laws.Banks.{all-banks-meet}
-use Rattle.meets_map_text.specs.Laws.Records.{numbers-meet-line}
-use Rattle.meets_map_text.specs.Laws.Shown.{refused-meets, verdict-meets, nodes-meet, fault-meets}
+use Rattle.meets_map_text.specs.Laws.Records.{as_made, numbers-meet-line}
+use Rattle.meets_map_text.specs.Laws.Shown.{refused-meets, verdict-meets, node-meets, fault-meets}
 
 -- ---- of a layout
 
@@ -91,18 +95,18 @@ module _ (g : Given) (typed : Typed g) (counted : (table g).len ≡ banks g) (sm
   prints-told Accepted node n c lost l x y z = says.prints (file-line n) x y z (verdict-meets Accepted node n c lost)
   prints-told (Refused why) node n c lost l x y z = says.prints (file-line n) x y z (verdict-meets (Refused why) node n c lost)
 
-  prints : (v : Verdict) → Prints g f (comes_to v) (layout_text s b (map_after v (map_of b)))
+  -- where the nodes' lines say what is shown of each
+  prints : ((n : ℕ) → n ≤ (map_of b).nodes
+      → NodeLines g (outcome_of g typed old places).lent n (nodes_text (walked g (table g)) (row_of_pass (listed g) (map_of b).passes) n))
+      → (v : Verdict) → Prints g f (comes_to v) (layout_text s b (map_after v (map_of b)))
   unfolding nodes_text
-  prints Accepted =
+  prints nodes-so Accepted =
       let m = map_of b in
       prints-told m.verdict (node_told m.fault) m.passes m.nodes m.padding (outcome_of g typed old places).lent
-      (all-banks-meet g counted small m.padding) (nodes-meet g typed old places m.nodes (omega arith)) (fault-meets g typed old places)
-  prints (Refused why) =
+      (all-banks-meet g counted small m.padding) (nodes-so m.nodes (omega arith)) (fault-meets g typed old places)
+  prints nodes-so (Refused why) =
       says.prints (file-line 0) (all-banks-meet g counted small (replicate 16 no_lost)) says.no-node (says.no-fault refl)
       (says.refused (number-some why) (numbers-meet why) (refused-meets why))
-
-  pub layout-meets : (page : Opt) → (y : Outcome) × LaidSays g page old y × Prints g f y (layout_text s b (map_in page b))
-  layout-meets page = (comes_to (said_in page b), laid-meets page, prints (said_in page b))
 
 -- ---- of a file
 
@@ -135,16 +139,41 @@ module _ (file : List ℕ) (small : Bytes file) (fill : ℕ) where
     unfolding map_text
     text-by x e t = subst (λ (y : declared.Form). MapText file fill page (text_by file fill page y)) (sym e) t
 
-    by : FileSo file small fill → MapText file fill page (map_text file fill page)
-    by (so.broken {i = i} of x e) = text-by (BrokenForm (Malformed i)) e (says.broken of x (refused-meets (Malformed i)))
-    by (so.sound {f = f} {s = s} of x e shape same) =
-        text-by (SoundForm s) e
-        (says.laid of x (layout_is f file fill small) (λ old lends.
-        subst (λ (b : Input). (y : Outcome) × LaidSays (given_by f file fill) page old y × Prints (given_by f file fill) f y (layout_text s b (map_in page b)))
-        (sym same)
-        (layout-meets (given_by f file fill) (typed f file fill small) (counted f x) (flags-few f x) f s
-        (subst (Shaped (given_by f file fill) f) (sym shape) (shaped f x f)) old
-        (record { banks = lends.0; positions = lends.1; outputs = lends.2; sizes = lends.3 }) page)))
-
     pub map-text-meets : MapText file fill page (map_text file fill page)
+    unfolding nodes_text
     map-text-meets = by (file-so file small fill)
+      where
+        columns-same : (g : Given) (i k q : ℕ) {e e' : ℕ} (a o : Cell) {a' o' : made.Cell} → as_made a ≡ a' → as_made o ≡ o' → e' ≡ e
+            → map as_made (says.number i ∷ says.number (build.kind g i) ∷ says.number k ∷ says.number q ∷ a ∷ o ∷ says.number e ∷ [])
+            ≡ made.number i ∷ made.number (build.kind g i) ∷ made.number k ∷ made.number q ∷ a' ∷ o' ∷ made.number e' ∷ []
+        columns-same g i k q a o ea eo ee = rw (ea, eo, ee)
+
+        nodes-meet : (g : Given) (typed : Typed g) (old : Lent) (places : Places old) (n : ℕ) → n ≤ (map_of (input_of g typed)).nodes
+            → NodeLines g (outcome_of g typed old places).lent n (nodes_text (walked g (table g))
+            (row_of_pass (listed g) (map_of (input_of g typed)).passes) n)
+        nodes-meet g typed old places zero h = says.no-node
+        nodes-meet g typed old places (suc i) h =
+            says.more (nodes-meet g typed old places i (omega (arith, h)))
+            (node-meets g typed old places (λ i k q e e' a o a' o' ea eo ee. columns-same g i k q a o ea eo ee) i h)
+
+        layout-meets : (g : Given) (typed : Typed g) (counted : (table g).len ≡ banks g) (few : (b : ℕ) → b < banks g → flag g b ≤ 15) (f : Form)
+            (s : Shape) (shaped : Shaped g f s) (old : Lent) (places : Places old) (page : Opt)
+            → (y : Outcome) × LaidSays g page old y × Prints g f y (layout_text s (input_of g typed) (map_in page (input_of g typed)))
+        layout-meets g typed counted few f s shaped old places page =
+            let v = said_in page (input_of g typed) in (
+              comes_to g typed counted few f s shaped old places v,
+              laid-meets g typed counted few f s shaped old places page,
+              prints g typed counted few f s shaped old places (nodes-meet g typed old places) v,
+            )
+
+        by : FileSo file small fill → MapText file fill page (map_text file fill page)
+        by (so.broken {i = i} of x e) = text-by (BrokenForm (Malformed i)) e (says.broken of x (refused-meets (Malformed i)))
+        by (so.sound {f = f} {s = s} of x e shape same) =
+            text-by (SoundForm s) e
+            (says.laid of x (layout_is f file fill small) (λ old lends.
+            subst (λ (b : Input). (y : Outcome) × LaidSays (given_by f file fill) page old y × Prints (given_by f file fill) f y
+            (layout_text s b (map_in page b)))
+            (sym same)
+            (layout-meets (given_by f file fill) (typed f file fill small) (counted f x) (flags-few f x) f s
+            (subst (Shaped (given_by f file fill) f) (sym shape) (shaped f x f)) old
+            (record { banks = lends.0; positions = lends.1; outputs = lends.2; sizes = lends.3 }) page)))

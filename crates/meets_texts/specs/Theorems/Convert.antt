@@ -76,36 +76,35 @@ module _ (f : Form) (file : List ℕ) (small : Bytes file) where
   sized room (BrokenForm why) e = record { is = let b = form-broken f file why e in rw b.refusal refl }
   sized room (SoundForm s) e = answer-sized _ _ _ _ (length (result f file)) _ (drops_of f (contents f file)) room
 
-  module _ (old : List ℕ) where
-    prints : (a : Conversion) → Sized (length (result f file)) a
-        → Prints (conversion_count a) (out_after a (result f file) old) (printed a (result f file))
-    prints (Converted n) s =
-        subst (Prints (conversion_count (Converted n)) (out_after (Converted n) (result f file) old))
-        (take_at (result f file) (drop (length (result f file)) old) n (sym s.is)) (says.accepted refl)
-    prints (Refused why) s =
-        says.refused (number-some why)
-        (subst (λ (ns : List ℕ). Line (ascii "refused") (number_of why ∷ ns) (refusal_text why)) s.is
-        (line-meets (ascii "refused") (number_of why ∷ place_numbers (place_of why))))
-
   abbrev way_in : List ℕ
   way_in = printed (answer_in f file 65537) (result f file)
-
-  way-meets : (old : List ℕ) → length old ≡ 65537 → (y : Outcome) × ConvertSays f file old y × Prints y.answer y.out way_in
-  way-meets old long =
-      let a = answer_in f file (length old) in
-      let y : Outcome = record { answer = conversion_count a; out = out_after a (result f file) old } in (
-        y,
-        convert-meets f file old small y.answer y.out (record { answer = refl; out = refl }),
-        subst (λ (n : ℕ). Prints y.answer y.out (printed (answer_in f file n) (result f file))) long
-            (prints old a (sized (length old) (form_in (kind f) file) refl)),
-      )
 
 pub convert-text-meets : (asked : ℕ) (file : List ℕ) → Bytes file → ConvertText asked file (convert_text asked file)
 unfolding form1_text form2_text
 convert-text-meets asked file small =
     bools.either (eqb asked 1)
-    (λ t. rw t (says.converts (inl (eqb-true asked 1 t, refl)) (way-meets form-2 file small)))
-    (λ f. rw f (says.converts (inr (eqb-false asked 1 f, refl)) (way-meets form-1 file small)))
+    (λ t. rw t (says.converts (inl (eqb-true asked 1 t, refl)) (way-meets form-2)))
+    (λ f. rw f (says.converts (inr (eqb-false asked 1 f, refl)) (way-meets form-1)))
+  where
+    prints : (f : Form) (old : List ℕ) (a : Conversion) → Sized (length (result f file)) a
+        → Prints (conversion_count a) (out_after a (result f file) old) (printed a (result f file))
+    prints f old (Converted n) s =
+        subst (Prints (conversion_count (Converted n)) (out_after (Converted n) (result f file) old))
+        (take_at (result f file) (drop (length (result f file)) old) n (sym s.is)) (says.accepted refl)
+    prints f old (Refused why) s =
+        says.refused (number-some why)
+        (subst (λ (ns : List ℕ). Line (ascii "refused") (number_of why ∷ ns) (refusal_text why)) s.is
+        (line-meets (ascii "refused") (number_of why ∷ place_numbers (place_of why))))
+
+    way-meets : (f : Form) (old : List ℕ) → length old ≡ 65537 → (y : Outcome) × ConvertSays f file old y × Prints y.answer y.out (way_in f file small)
+    way-meets f old long =
+        let a = answer_in f file (length old) in
+        let y : Outcome = record { answer = conversion_count a; out = out_after a (result f file) old } in (
+          y,
+          convert-meets f file old small y.answer y.out (record { answer = refl; out = refl }),
+          subst (λ (n : ℕ). Prints y.answer y.out (printed (answer_in f file n) (result f file))) long
+              (prints f old a (sized f file small (length old) (form_in (kind f) file) refl)),
+        )
 
 -- ---- they leave one
 

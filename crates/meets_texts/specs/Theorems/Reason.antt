@@ -24,15 +24,15 @@ module _ (format load : ℕ) (source : List ℕ) where
   abbrev why : Why
   why = why_of format load source (read_text format load source)
 
-  by_length : (t : Bool) → leb (length source) longest ≡ t → ReasonText format load source (pick t (why_text why) (refusal_text (Malformed 0)))
-  by_length true t =
-      told (leb-true (length source) longest t) (reason-meets format load source [] (reason_told why) [] refl refl)
-      (line-meets (ascii "reason") (why_numbers why))
-  by_length false f = too_long (leb-false (length source) longest f) (line-meets (ascii "refused") (4 ∷ 0 ∷ []))
-
   pub reason-text-meets : ReasonText format load source (reason_text format load source)
   unfolding reason_text
   reason-text-meets = by_length (leb (length source) longest) refl
+    where
+      by_length : (t : Bool) → leb (length source) longest ≡ t → ReasonText format load source (pick t (why_text why) (refusal_text (Malformed 0)))
+      by_length true t =
+          told (leb-true (length source) longest t) (reason-meets format load source [] (reason_told why) [] refl refl)
+          (line-meets (ascii "reason") (why_numbers why))
+      by_length false f = too_long (leb-false (length source) longest f) (line-meets (ascii "refused") (4 ∷ 0 ∷ []))
 
   abbrev numbers : DkReason → List ℕ
   numbers w = w.reason ∷ w.line ∷ w.first ∷ w.second ∷ []

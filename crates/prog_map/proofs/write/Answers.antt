@@ -5,7 +5,7 @@ use Rattle.std.proofs.Math.Seq.{length-sets}
 use Rattle.std.proofs.lemmas.List.Edits.{sets-eq}
 use Rattle.print_text.specs.Puts.{Writes}
 use Rattle.print_map.specs.Text.{map_text}
-use Rattle.meets_map_text.specs.Theorems.Promised.{map-text-exactly}
+use Rattle.meets_map_text.proofs.Promised.{map-text-exactly}
 use Rattle.prog_map.proofs.write.Goals as goal
 
 -- text that is written from the front on, and so many bytes of the buffer
