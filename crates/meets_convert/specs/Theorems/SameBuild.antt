@@ -148,6 +148,11 @@ told-so Rise passes sums (turns {why} {other} e h) =
       padding = replicate 16 unpadded;
     })) (sym e) (built.refused h)
 
+-- That 2 becomes bank 1's for a filled bank of size 0 is handed on as a fact: each theorem says it of `Risen` itself.
+abbrev Filled : Type 0
+Filled = (b : List ℕ) (rows fill : ℕ) → (two b 0 ≡ 0 → ⊥) → (StartPast b → ⊥) → is_set (get_or b 22 0) 8 ≡ true → get_or b 22 0 % 2 ≡ 1
+    → four b 10 ≡ 0 → Risen b rows fill 2 0 0 1 0
+
 -- ---- the layout of a one-bank file
 
 module _ (b : List ℕ) (nodes rows : List (List ℕ)) (values : List ℕ) (limit fill : ℕ) (few : suc (length nodes) ≤ max_nodes)
@@ -212,57 +217,59 @@ module _ (b : List ℕ) (nodes rows : List (List ℕ)) (values : List ℕ) (limi
   unfolding bank_of
   fill_is = refl
 
-  in-numbers : {why other : Refusal} → Rises (input_for form1 c fill) why other
-      → Risen b (length rows) fill (number_of why) (first_of (place_of why)) (second_of (place_of why)) (first_of (place_of other)) (second_of (place_of other))
-  in-numbers (places.bad-unit e) = built.bank-0 (inl (sym unit-is ∙ e))
-  in-numbers (places.bad-start e) = built.bank-0 (inr (start-past b (rw start_is at e)))
-  in-numbers (places.empty-fill u s f z) =
-      let size = size-there (get_or b 22 0) (four b 10) (sym size_is ∙ z) in
-      built.bank-1 (λ e. omega (arith, u, unit-is, e)) (past-start b (rw start_is at s)) (eqb-true (get_or b 22 0 / 8 % 2) 1 (sym fill_is ∙ f)) size.0
-      size.1
-  in-numbers (places.rows h) = built.row_count h
-  in-numbers (places.fill h) = built.choice h
-  in-numbers (places.four low high f i) = built.node-4 low high f i
-  in-numbers (places.five i) = built.node-5 i
-  in-numbers (places.seven i) = built.node-7 i
-  in-numbers (places.ten i) = built.node-10 i
-  in-numbers (places.eleven i) = built.node-11 i
-  in-numbers (places.thirteen i) = built.node-13 i
-  in-numbers places.eight = built.stays-8
-  in-numbers (places.twelve start size) = built.stays-12 start size
-  in-numbers (places.fourteen buffer) = built.stays-14 buffer
+  module _ (filled : Filled) where
+    in-numbers : {why other : Refusal} → Rises (input_for form1 c fill) why other
+        → Risen b (length rows) fill (number_of why) (first_of (place_of why)) (second_of (place_of why)) (first_of (place_of other))
+        (second_of (place_of other))
+    in-numbers (places.bad-unit e) = built.bank-0 (inl (sym unit-is ∙ e))
+    in-numbers (places.bad-start e) = built.bank-0 (inr (start-past b (rw start_is at e)))
+    in-numbers (places.empty-fill u s f z) =
+        let size = size-there (get_or b 22 0) (four b 10) (sym size_is ∙ z) in
+        filled b (length rows) fill (λ e. omega (arith, u, unit-is, e)) (past-start b (rw start_is at s)) (sym fill_is ∙ f) size.0 size.1
+    in-numbers (places.rows h) = built.row_count h
+    in-numbers (places.fill h) = built.choice h
+    in-numbers (places.four low high f i) = built.node-4 low high f i
+    in-numbers (places.five i) = built.node-5 i
+    in-numbers (places.seven i) = built.node-7 i
+    in-numbers (places.ten i) = built.node-10 i
+    in-numbers (places.eleven i) = built.node-11 i
+    in-numbers (places.thirteen i) = built.node-13 i
+    in-numbers places.eight = built.stays-8
+    in-numbers (places.twelve start size) = built.stays-12 start size
+    in-numbers (places.fourteen buffer) = built.stays-14 buffer
 
-  paged-numbers : {why other : Refusal} → PagedRises (input_for form1 c fill) why other
-      → PagedRisen b (length rows) fill (number_of why) (first_of (place_of why)) (second_of (place_of why)) (first_of (place_of other)) (second_of (place_of other))
-  paged-numbers (paged.ordinary h) = built.ordinary (in-numbers h)
-  paged-numbers paged.page-size = built.page-size
-  paged-numbers (paged.alignment at) = built.alignment at
-  paged-numbers paged.offset = built.offset
-  paged-numbers paged.size = built.size
-  paged-numbers paged.unit = built.unit
-  paged-numbers (paged.addr i) = built.addr i
+    paged-numbers : {why other : Refusal} → PagedRises (input_for form1 c fill) why other
+        → PagedRisen b (length rows) fill (number_of why) (first_of (place_of why)) (second_of (place_of why)) (first_of (place_of other))
+        (second_of (place_of other))
+    paged-numbers (paged.ordinary h) = built.ordinary (in-numbers h)
+    paged-numbers paged.page-size = built.page-size
+    paged-numbers (paged.alignment at) = built.alignment at
+    paged-numbers paged.offset = built.offset
+    paged-numbers paged.size = built.size
+    paged-numbers paged.unit = built.unit
+    paged-numbers (paged.addr i) = built.addr i
 
-  -- every answer of the build of such a file
-  changed : (room : Room) (x : Build) → (build_of (input_for form1 c fill) room).build ≡ x
-      → Changed (Risen b (length rows) fill) x (raised_build (input_for form1 c fill) x)
-  changed room (Done k bits spans) e = done
-  changed room (Refused why) e = let z = rises (input_for form1 c fill) one room why e in turns (same_number z) (in-numbers z)
+    -- every answer of the build of such a file
+    changed : (room : Room) (x : Build) → (build_of (input_for form1 c fill) room).build ≡ x
+        → Changed (Risen b (length rows) fill) x (raised_build (input_for form1 c fill) x)
+    changed room (Done k bits spans) e = done
+    changed room (Refused why) e = let z = rises (input_for form1 c fill) one room why e in turns (same_number z) (in-numbers z)
 
-  paged-changed : (page : ℕ) (room : Room) (x : Build) → (output_in (Some page) (input_for form1 c fill) room).build ≡ x
-      → Changed (PagedRisen b (length rows) fill) x (profile_build (input_for form1 c fill) x)
-  paged-changed page room (Done k bits spans) e = done
-  paged-changed page room (Refused why) e =
-      let z = paged-rises (input_for form1 c fill) one page room why e in
-      turns (same-paged-number z) (paged-numbers z)
+    paged-changed : (page : ℕ) (room : Room) (x : Build) → (output_in (Some page) (input_for form1 c fill) room).build ≡ x
+        → Changed (PagedRisen b (length rows) fill) x (profile_build (input_for form1 c fill) x)
+    paged-changed page room (Done k bits spans) e = done
+    paged-changed page room (Refused why) e =
+        let z = paged-rises (input_for form1 c fill) one page room why e in
+        turns (same-paged-number z) (paged-numbers z)
 
-  answers : (page : Opt) (room : Room) → Answers (RisenWith page b (length rows) fill) (layout_told (output_in page (input_for form1 c fill) room))
-      (layout_told (raised_in page (input_for form1 c fill) (output_in page (input_for form1 c fill) room)))
-  answers None room =
-      let o = build_of (input_for form1 c fill) room in
-      told-so (Risen b (length rows) fill) o.passes o.padding (changed room o.build refl)
-  answers (Some page) room =
-      let o = output_in (Some page) (input_for form1 c fill) room in
-      told-so (PagedRisen b (length rows) fill) o.passes o.padding (paged-changed page room o.build refl)
+    answers : (page : Opt) (room : Room) → Answers (RisenWith page b (length rows) fill) (layout_told (output_in page (input_for form1 c fill) room))
+        (layout_told (raised_in page (input_for form1 c fill) (output_in page (input_for form1 c fill) room)))
+    answers None room =
+        let o = build_of (input_for form1 c fill) room in
+        told-so (Risen b (length rows) fill) o.passes o.padding (changed room o.build refl)
+    answers (Some page) room =
+        let o = output_in (Some page) (input_for form1 c fill) room in
+        told-so (PagedRisen b (length rows) fill) o.passes o.padding (paged-changed page room o.build refl)
 
 -- ---- two files, of contents with one bank and of what they become
 
@@ -293,7 +300,7 @@ one-outcome e l = ap₂ (λ (r : DkLayout) (x : out.Lent). record { answer = r; 
 abbrev Told : List ℕ → ℕ → Opt → Lent → Outcome → Type 0
 Told file fill page old x = FormTold file fill page (lent_of old) x.answer (lent_of x.lent)
 
-module _ (x : Contents) (single : Single x) (fill : ℕ) (page : Opt) (old : Lent) (a b : Outcome) where
+module _ (filled : Filled) (x : Contents) (single : Single x) (fill : ℕ) (page : Opt) (old : Lent) (a b : Outcome) where
   said_of : (room : Room) → Answers (RisenWith page (get_or x.banks 0 []) (length x.rows) fill) (layout_told (output_in page (input_for form1 x fill) room))
       (layout_told (raised_in page (input_for form1 x fill) (output_in page (input_for form1 x fill) room)))
   said_of room =
@@ -301,7 +308,7 @@ module _ (x : Contents) (single : Single x) (fill : ℕ) (page : Opt) (old : Len
       (layout_told (output_in page (input_for form1 y fill) room))
       (layout_told (raised_in page (input_for form1 y fill) (output_in page (input_for form1 y fill) room))))
       (is-single x single.one)
-      (answers (get_or x.banks 0 []) x.nodes x.rows x.values x.limit fill single.few single.none page room)
+      (answers (get_or x.banks 0 []) x.nodes x.rows x.values x.limit fill single.few single.none filled page room)
 
   both-files : Told (written form1 x) fill page old a → Told (written form2 (widened x)) fill page old b
       → SameBuild (RisenWith page (get_or x.banks 0 []) (length x.rows) fill) a b
@@ -323,23 +330,23 @@ module _ (x : Contents) (single : Single x) (fill : ℕ) (page : Opt) (old : Len
 -- a one-bank file that was converted to form 2
 module _ (file out : List ℕ) (v : convert.Outcome) (small : Bytes file) (first : ConvertSays form-1 file out v) (nought : v.answer.refusal ≡ 0) (h : Held)
     (sound : Sound form-1 file h) (one : length h.banks ≡ 1) (fill : ℕ) (old : Lent) (a b : Outcome) where
-  to-form2 : (page : Opt) → Told file fill page old a → Told (made v) fill page old b
+  to-form2 : Filled → (page : Opt) → Told file fill page old a → Told (made v) fill page old b
       → SameBuild (RisenWith page (get_or h.banks 0 []) (length h.rows) fill) a b
-  to-form2 page told-a told-b =
+  to-form2 filled page told-a told-b =
       let same : contents_in form1 file ≡ contents h = sound-contents sound in
       let (ok, is, at) = converted-single file out v.answer.count v.out small (called form-1 file out v small first nought)
       (ap (λ (y : Contents). length y.banks) same ∙ one) in
       subst (λ (y : Contents). SameBuild (RisenWith page (get_or y.banks 0 []) (length y.rows) fill) a b) same
-      (both-files (contents_in form1 file) ok fill page old a b
+      (both-files filled (contents_in form1 file) ok fill page old a b
       (subst (λ (f : List ℕ). Told f fill page old a) is told-a)
       (subst (λ (f : List ℕ). Told f fill page old b) at told-b))
 
 -- a file with the shape, which was converted back: the one-bank file is what was made
 module _ (file out : List ℕ) (v : convert.Outcome) (small : Bytes file) (first : ConvertSays form-2 file out v) (nought : v.answer.refusal ≡ 0) (h d : Held)
     (sound : Sound form-2 file h) (shape : ShapeOf d h) (fill : ℕ) (old : Lent) (a b : Outcome) where
-  to-form1 : (page : Opt) → Told (made v) fill page old a → Told file fill page old b
+  to-form1 : Filled → (page : Opt) → Told (made v) fill page old a → Told file fill page old b
       → SameBuild (RisenWith page (get_or d.banks 0 []) (length d.rows) fill) a b
-  to-form1 page told-a told-b =
+  to-form1 filled page told-a told-b =
       let same : contents_in form2 file ≡ contents h = sound-contents sound in
       let s = so-shape d h shape in
       let (ok, at, is) = converted-back-single file out v.answer.count v.out small (called form-2 file out v small first nought)
@@ -347,7 +354,7 @@ module _ (file out : List ℕ) (v : convert.Outcome) (small : Bytes file) (first
       let x = narrowed (contents_in form2 file) in
       let d-is : held x ≡ d = ap (λ (y : Contents). held (narrowed y)) same ∙ sym s.1 in
       subst (λ (y : Held). SameBuild (RisenWith page (get_or y.banks 0 []) (length y.rows) fill) a b) d-is
-      (both-files x ok fill page old a b
+      (both-files filled x ok fill page old a b
       (subst (λ (f : List ℕ). Told f fill page old a) at told-a)
       (subst (λ (f : List ℕ). Told f fill page old b) is told-b))
 
@@ -356,7 +363,8 @@ pub one-bank-same-build : (file out : List ℕ) (v : convert.Outcome) → Bytes 
     → (h : Held) → Sound form-1 file h → length h.banks ≡ 1 → (fill : ℕ) (old : Lent) (a b : Outcome)
     → FormSays file fill old a → FormSays (made v) fill old b → SameBuild (Risen (get_or h.banks 0 []) (length h.rows) fill) a b
 one-bank-same-build file out v small first nought h sound one fill old a b x y =
-    to-form2 file out v small first nought h sound one fill old a b None (form-told file small fill old a x)
+    to-form2 file out v small first nought h sound one fill old a b
+    (λ c n k u s f z g. built.bank-1 u s (eqb-true (get_or c 22 0 / 8 % 2) 1 f) z g) None (form-told file small fill old a x)
     (form-told (made v) (made_bytes form-1 file out v small first nought) fill old b y)
 
 -- So it is with a page size.
@@ -365,7 +373,8 @@ pub one-bank-same-paged-build : (file out : List ℕ) (v : convert.Outcome) → 
     → FormPagedSays file fill page old a → FormPagedSays (made v) fill page old b
     → SameBuild (PagedRisen (get_or h.banks 0 []) (length h.rows) fill) a b
 one-bank-same-paged-build file out v small first nought h sound one fill page old a b x y =
-    to-form2 file out v small first nought h sound one fill old a b (Some page) (form-paged-told file small fill page old a x)
+    to-form2 file out v small first nought h sound one fill old a b
+    (λ c n k u s f z g. built.bank-1 u s (eqb-true (get_or c 22 0 / 8 % 2) 1 f) z g) (Some page) (form-paged-told file small fill page old a x)
     (form-paged-told (made v) (made_bytes form-1 file out v small first nought) fill page old b y)
 
 -- A file with the shape and the one-bank file that was made of it: the same image and blocks.
@@ -373,7 +382,8 @@ pub shape-same-build : (file out : List ℕ) (v : convert.Outcome) → Bytes fil
     → (h d : Held) → Sound form-2 file h → ShapeOf d h → (fill : ℕ) (old : Lent) (a b : Outcome)
     → FormSays (made v) fill old a → FormSays file fill old b → SameBuild (Risen (get_or d.banks 0 []) (length d.rows) fill) a b
 shape-same-build file out v small first nought h d sound shape fill old a b x y =
-    to-form1 file out v small first nought h d sound shape fill old a b None
+    to-form1 file out v small first nought h d sound shape fill old a b
+    (λ c n k u s f z g. built.bank-1 u s (eqb-true (get_or c 22 0 / 8 % 2) 1 f) z g) None
     (form-told (made v) (made_bytes form-2 file out v small first nought) fill old a x) (form-told file small fill old b y)
 
 -- So it is with a page size.
@@ -382,7 +392,8 @@ pub shape-same-paged-build : (file out : List ℕ) (v : convert.Outcome) → Byt
     → FormPagedSays (made v) fill page old a → FormPagedSays file fill page old b
     → SameBuild (PagedRisen (get_or d.banks 0 []) (length d.rows) fill) a b
 shape-same-paged-build file out v small first nought h d sound shape fill page old a b x y =
-    to-form1 file out v small first nought h d sound shape fill old a b (Some page)
+    to-form1 file out v small first nought h d sound shape fill old a b
+    (λ c n k u s f z g. built.bank-1 u s (eqb-true (get_or c 22 0 / 8 % 2) 1 f) z g) (Some page)
     (form-paged-told (made v) (made_bytes form-2 file out v small first nought) fill page old a x) (form-paged-told file small fill page old b y)
 
 -- ---- other files: one outcome, the answer and everything lent

@@ -83,10 +83,10 @@ module _ (bytes : List ℕ) (bits : ℕ) where
   image-one t u (report.digits {d = c} a x) (report.digits {d = e} b y) =
       ap (λ (d : List ℕ). ascii "image " ++ d ++ ascii "\n") (text-one bytes bits c e x y)
 
-  pub image-meets : ImageLine bytes bits (image_text (hex_of bytes bits))
+  pub image-by : (d : List ℕ) → hex_of bytes bits ≡ d → ImageLine bytes bits (image_text d)
   unfolding image_text
-  image-meets = by (hex_of bytes bits) refl
-    where
-      by : (d : List ℕ) → hex_of bytes bits ≡ d → ImageLine bytes bits (image_text d)
-      by [] e = report.empty (omega (arith, length-hex_of bytes bits, ap length e))
-      by (c ∷ d) e = report.digits (omega (arith, length-hex_of bytes bits, ap length e)) (rw e at (text-meets bytes bits))
+  image-by [] e = report.empty (omega (arith, length-hex_of bytes bits, ap length e))
+  image-by (c ∷ d) e = report.digits (omega (arith, length-hex_of bytes bits, ap length e)) (rw e at (text-meets bytes bits))
+
+  pub image-meets : ImageLine bytes bits (image_text (hex_of bytes bits))
+  image-meets = image-by (hex_of bytes bits) refl

@@ -9,6 +9,7 @@ use Rattle.prelude.specs.declared.Refusal.{Refusal}
 use Rattle.prelude.specs.declared.Refusal.TheVariants.{BankCount, BankNumber, BanksOverlap, Malformed, PositionPast, LabelOffBoundary, Unresolved}
 use Rattle.prelude.specs.declared.Refusal.TheVariants.{DefaultBank, PastBank, NoOutput, Overlap, StoreFull, TooShort, BadStore, BadPart, PartlyCovered}
 use Rattle.prelude.specs.declared.Refusal.TheVariants.{FillBitDropped, OffProfile}
+use Rattle.bitvec.specs.HexDigits.{hex_of}
 use Rattle.sort.specs.Numbers.{order}
 use Rattle.iter.specs.declared.Lost.{Lost}
 use Rattle.blocks.specs.Spans.{spans_of}
@@ -28,7 +29,7 @@ use Rattle.says.specs.Report.{Two, Numbers, RefusalLine, BlocksOf, Reports}
 use Rattle.meets.specs.Laws.Words.{OneOnly}
 use Rattle.meets.specs.Theorems.Blocks.{run, runs, walk_is, walk, blocks-in-order}
 use Rattle.meets.specs.Theorems.Ordered.{order-decides, order-meets}
-use Rattle.meets_report.specs.Laws.Lines.{line-one, line-meets, blocks-meet, image-meets}
+use Rattle.meets_report.specs.Laws.Lines.{line-one, line-meets, blocks-meet, image-by}
 
 -- ---- the refusal's line
 
@@ -97,15 +98,20 @@ module _ (y : Outcome) (same : length y.lent.offsets ≡ length y.lent.sizes) wh
 -- ---- the text, where the spans' lists are of one length
 
 module _ (passes : ℕ) (padding : List Lost) where
+  done-spelt : (k bits n : ℕ) (l : Lent) (t : List ℕ) → length l.offsets ≡ length l.sizes
+      → t ≡ done_text k bits (take n l.offsets) (take n l.sizes) l.image
+      → Reports (record { answer = build_told (Done k bits n) passes padding; lent = l }) t
+  done-spelt k bits n l t same e =
+      let y : Outcome = record { answer = build_told (Done k bits n) passes padding; lent = l } in
+      rw e (report.accepted refl (line-meets (ascii "passes") (k ∷ [])) (blocks-of-meet y same)
+      (blocks-meet (blocks_of (spans_of (take n l.offsets) (take n l.sizes)))) (image-by l.image bits (hex_of l.image bits) refl))
+
   done-shown : (k bits n : ℕ) (l : Lent) → length l.offsets ≡ length l.sizes
       → Reports (record { answer = build_told (Done k bits n) passes padding; lent = l })
       (done_text k bits (take n l.offsets) (take n l.sizes) l.image)
-  done-shown k bits n l same =
-      let y : Outcome = record { answer = build_told (Done k bits n) passes padding; lent = l } in
-      report.accepted refl (line-meets (ascii "passes") (k ∷ [])) (blocks-of-meet y same)
-      (blocks-meet (blocks_of (spans_of (take n l.offsets) (take n l.sizes)))) (image-meets l.image bits)
+  done-shown k bits n l same = done-spelt k bits n l _ same refl
 
   pub shown : (q : Build) (l : Lent) → length l.offsets ≡ length l.sizes
       → Reports (record { answer = build_told q passes padding; lent = l }) (answered q l.image l.offsets l.sizes)
   shown (Refused why) l same = report.refused (refusal-meets passes padding why)
-  shown (Done k bits n) l same = done-shown k bits n l same
+  shown (Done k bits n) l same = done-spelt k bits n l (answered (Done k bits n) l.image l.offsets l.sizes) same refl

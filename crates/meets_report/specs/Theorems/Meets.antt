@@ -40,39 +40,70 @@ paired t vs values old (Done k bits n) same =
     over-long (words spans) old.offsets (length spans) (length old.sizes) (length-map spans _) same
     ∙ sym (over-long (sizes spans) old.sizes (length spans) (length old.sizes) (length-map spans _) refl)
 
+-- what a build of the file leaves of what is lent, and its outcome in the sentences' terms
+module _ (file : List ℕ) (old : Lent) (o : Output) where
+  abbrev pub left-of : out.Lent
+  left-of = left_by (table_of file) (file_visits file o.passes) (lists_in file).values (lent_of old) o.build
+
+  abbrev pub outcome-of : Outcome
+  outcome-of = record { answer = layout_told o; lent = lent_so left-of }
+
+  as-paired-of : length old.offsets ≡ length old.sizes → length left-of.offsets ≡ length left-of.sizes
+  as-paired-of = paired (table_of file) (file_visits file o.passes) (lists_in file).values (lent_of old) o.build
+
+module _ (file : List ℕ) (small : Bytes file) (fill : ℕ) (page : Opt) (old : Lent) where
+  -- the file's output
+  abbrev its : Output
+  its = file_output file fill page (room_of (lent_of old))
+
+  told-of : (o : Output) → o ≡ its → FormTold file fill page (lent_of old) (outcome-of file old o).answer (lent_of (outcome-of file old o).lent)
+  told-of o is = rw is (record { answer = refl; built = record { answer = refl; left = refl } })
+
+  prints-of : (o : Output) → o ≡ its → Lends old → Reports (outcome-of file old o) (report_text file fill page)
+  prints-of o is lends =
+      rw is (subst (Reports (outcome-of file old its))
+      (file-text file fill page small (lent_of old) lends.0 lends.1 lends.2 lends.3 its (left-of file old its) (record { answer = refl; left = refl }))
+      (shown its.passes its.padding its.build (lent_so (left-of file old its)) (as-paired-of file old its (lends.2 ∙ sym lends.3))))
+
+-- what the library says of the file
+pub layout-of : (file : List ℕ) (small : Bytes file) (fill : ℕ) (page : Opt) (old : Lent)
+    → LayoutSays file fill page old (outcome-of file old (file_output file fill page (room_of (lent_of old))))
+layout-of file small fill None old =
+    let o = file_output file fill None (room_of (lent_of old)) in
+    let y = outcome-of file old o in
+    form-meets file small fill old y.answer y.lent (told-of file small fill None old o refl)
+layout-of file small fill (Some page) old =
+    let o = file_output file fill (Some page) (room_of (lent_of old)) in
+    let y = outcome-of file old o in
+    form-paged-meets file small fill page old y.answer y.lent (told-of file small fill (Some page) old o refl)
+
+-- the file's output by its name, of which the same is said
 module _ (file : List ℕ) (small : Bytes file) (fill : ℕ) (page : Opt) (old : Lent) where
   abbrev pub answer : Output
   answer = file_output file fill page (room_of (lent_of old))
 
   abbrev pub left : out.Lent
-  left = left_by (table_of file) (file_visits file answer.passes) (lists_in file).values (lent_of old) answer.build
+  left = left-of file old answer
 
   -- the outcome by the definitions
   abbrev pub outcome : Outcome
-  outcome = record { answer = layout_told answer; lent = lent_so left }
+  outcome = outcome-of file old answer
 
   told : FormTold file fill page (lent_of old) outcome.answer (lent_of outcome.lent)
-  told = record { answer = refl; built = record { answer = refl; left = refl } }
+  told = told-of file small fill page old answer refl
 
   pub as-paired : length old.offsets ≡ length old.sizes → length left.offsets ≡ length left.sizes
-  as-paired = paired (table_of file) (file_visits file answer.passes) (lists_in file).values (lent_of old) answer.build
+  as-paired = as-paired-of file old answer
 
   prints : Lends old → Reports outcome (report_text file fill page)
-  prints lends =
-      subst (Reports outcome)
-      (file-text file fill page small (lent_of old) lends.0 lends.1 lends.2 lends.3 answer left (record { answer = refl; left = refl }))
-      (shown answer.passes answer.padding answer.build (lent_so left) (as-paired (lends.2 ∙ sym lends.3)))
+  prints lends = prints-of file small fill page old answer refl lends
 
--- what the library says of the file
+-- so `layout-meets`, of the outcome by its name
 pub layout-meets : (file : List ℕ) (small : Bytes file) (fill : ℕ) (page : Opt) (old : Lent)
     → LayoutSays file fill page old (outcome file small fill page old)
-layout-meets file small fill None old =
-    let y = outcome file small fill None old in
-    form-meets file small fill old y.answer y.lent (told file small fill None old)
-layout-meets file small fill (Some page) old =
-    let y = outcome file small fill (Some page) old in
-    form-paged-meets file small fill page old y.answer y.lent (told file small fill (Some page) old)
+layout-meets file small fill page old = layout-of file small fill page old
 
 pub report-meets : (file : List ℕ) → Bytes file → (fill : ℕ) (page : Opt) → ReportSays file fill page (report_text file fill page)
 report-meets file small fill page old lends =
-    (outcome file small fill page old, layout-meets file small fill page old, prints file small fill page old lends)
+    let o = file_output file fill page (room_of (lent_of old)) in
+    (outcome-of file old o, layout-of file small fill page old, prints-of file small fill page old o refl lends)

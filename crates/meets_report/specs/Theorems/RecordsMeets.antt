@@ -17,8 +17,10 @@ use Rattle.blocks.specs.Laws.Count.{spans-few}
 use Rattle.blocks.specs.Outcome.{origins, sizes}
 use Rattle.blocks.specs.Spans.{spans_of}
 use Rattle.blocks.specs.Theorems.Count.{blocks-few}
+use Rattle.output.specs.Output.{room_of}
 use Rattle.output.specs.declared.Build.{Build}
 use Rattle.output.specs.declared.Build.TheVariants.{Done, Refused}
+use Rattle.form_build.specs.Filed.{file_output}
 use Rattle.form_fields.specs.Whole as whole
 use Rattle.record_write.specs.Checks.{all_parts, all_placed}
 use Rattle.record_write.specs.Cut.{blocks_in}
@@ -48,7 +50,7 @@ use Rattle.meets_records.specs.Theorems.WriteMeets.{write-hex-meets, write-srec-
 use Rattle.meets_report.specs.Laws.Kept.{Kept, layout-kept}
 use Rattle.meets_report.specs.Laws.Lines.{line-meets}
 use Rattle.meets_report.specs.Laws.Shown.{refusal-meets, blocks-of-meet}
-use Rattle.meets_report.specs.Theorems.Meets.{answer, left, outcome, layout-meets}
+use Rattle.meets_report.specs.Theorems.Meets.{left-of, outcome-of, layout-of}
 
 -- ---- the call that writes, in a room in which every file fits
 
@@ -142,11 +144,14 @@ module _ (passes : ℕ) (padding : List Lost) (l : Lent) (k bits n : ℕ) where
   abbrev ss : List ℕ
   ss = take n l.sizes
 
-  chosen : length l.offsets ≡ length l.sizes → (w : Bool) → Chosen y w (map run (blocks_by w bits os ss))
-  chosen same false = says.blocks (blocks-of-meet y same)
-  chosen same true = either (eqb bits 0)
+  chosen-so : length l.offsets ≡ length l.sizes → (w : Bool) (b : List Run) → b ≡ map run (blocks_by w bits os ss) → Chosen y w b
+  chosen-so same false b e = rw e (says.blocks (blocks-of-meet y same))
+  chosen-so same true b e = rw e (either (eqb bits 0)
       (λ t. rw t (says.empty (eqb-true bits 0 t)))
-      (λ f. rw f (says.image (let some = eqb-false bits 0 f in omega arith)))
+      (λ f. rw f (says.image (let some = eqb-false bits 0 f in omega arith))))
+
+  chosen : length l.offsets ≡ length l.sizes → (w : Bool) → Chosen y w (map run (blocks_by w bits os ss))
+  chosen same w = chosen-so same w _ refl
 
   blocks-are-few : length os ≤ 4096 → (w : Bool) → length (blocks_by w bits os ss) ≤ 4096
   blocks-are-few h false = omega (arith, blocks-few (spans_of os ss), spans-few os ss)
@@ -167,17 +172,17 @@ module _ (w : Wanted) (room : List ℕ) (long : length room ≡ 131072) (passes 
       let d = done l.image good (omega arith) w.load bs few room long w.format in
       let is : g l.image good (omega arith) w.load bs few room long ≡ given w.load (y passes padding l k bits n) (map run bs) =
       ap₂ (λ (a c : List ℕ). record { image = l.image; offsets = a; sizes = c; load = w.load }) (sym (firsts bs)) (sym (seconds bs)) in
-      says.laid refl (chosen passes padding l k bits n (offsets ∙ sym sized) w.whole)
+      says.laid refl (chosen-so passes padding l k bits n (offsets ∙ sym sized) w.whole (map run bs) refl)
       (subst (λ (x : Given). CallSays w.format x room d.0) is d.1) d.2
 
 pub records-meet : (w : Wanted) (file : List ℕ) → whole.Bytes file → (fill : ℕ) (page : Opt)
     → RecordsSay w.format w.load w.whole file fill page (records_text w file fill page)
 unfolding records_text
 records-meet w file small fill page old lends room long =
-    let o = answer file small fill page old in
-    let new = left file small fill page old in
-    let y = outcome file small fill page old in
-    let says = layout-meets file small fill page old in (
+    let o = file_output file fill page (room_of (lent_of old)) in
+    let new = left-of file old o in
+    let y = outcome-of file old o in
+    let says = layout-of file small fill page old in (
       y,
       says,
       subst (Records w.format w.load w.whole room y)

@@ -30,18 +30,23 @@ across (Permᴰ.swap e g) m =
     (Memᴰ.cases_cons m)
 across (Permᴰ.trans p q) m = across q (across p m)
 
+-- That an item's offer covers the item's bits is handed on as a fact (`whole`): each theorem says it of `offer_of` itself.
+abbrev Whole : Type 0
+Whole = (it : Item) (k : ℕ) → Holds it k → Covers (offer_of it).position (offer_of it).size k
+
 -- ---- a bit belongs to one item
-one-holder : (items : List Item) → Separate (map offer_of items) → (a b : Item) (k : ℕ) → Memᴰ a items → Memᴰ b items → Holds a k → Holds b k → a ≡ b
-one-holder [] apart a b k m n h l = absurd (Memᴰ.not-nil m)
-one-holder (it ∷ items) (sep.one_more apart rest) a b k m n h l =
+one-holder : Whole → (items : List Item) → Separate (map offer_of items) → (a b : Item) (k : ℕ) → Memᴰ a items → Memᴰ b items → Holds a k → Holds b k
+    → a ≡ b
+one-holder whole [] apart a b k m n h l = absurd (Memᴰ.not-nil m)
+one-holder whole (it ∷ items) (sep.one_more apart rest) a b k m n h l =
     ⊎_elim
     (λ first. ⊎_elim
     (λ both. first ∙ sym both)
-    (λ later. absurd (apart (offer_of b) k (Memᴰ.map offer_of later) (subst (λ (i : Item). Holds i k) first h) l))
+    (λ later. absurd (apart (offer_of b) k (Memᴰ.map offer_of later) (whole it k (subst (λ (i : Item). Holds i k) first h)) (whole b k l)))
     (Memᴰ.cases_cons n))
     (λ later. ⊎_elim
-    (λ first. absurd (apart (offer_of a) k (Memᴰ.map offer_of later) (subst (λ (i : Item). Holds i k) first l) h))
-    (λ also. one-holder items rest a b k later also h l)
+    (λ first. absurd (apart (offer_of a) k (Memᴰ.map offer_of later) (whole it k (subst (λ (i : Item). Holds i k) first l)) (whole a k h)))
+    (λ also. one-holder whole items rest a b k later also h l)
     (Memᴰ.cases_cons n))
     (Memᴰ.cases_cons m)
 
@@ -52,14 +57,14 @@ module _ (items : List Item) (s t : Store) (empty : Empty s) (es : List Entry) (
     abbrev back : Permᴰ order items
     back = Permᴰ.symm same
 
-    held-bit : (it : Item) → Memᴰ it items → (k : ℕ) → Holds it k → bit_at last k ≡ its_bit it k
-    held-bit it m k h =
-        its_own (λ other n l g f. one-holder items (taken-separate s empty run) other it n (across back l) m g f) (across same m) h put
+    held-bit : Whole → (it : Item) → Memᴰ it items → (k : ℕ) → Holds it k → bit_at last k ≡ its_bit it k
+    held-bit whole it m k h =
+        its_own (λ other n l g f. one-holder whole items (taken-separate s empty run) other it n (across back l) m g f) (across same m) h put
 
     -- Each bit of an item is that item's own bit,
     pub item-bit : (it : Item) → Memᴰ it items → (bit : ℕ) → bit < it.size → bit_at last (it.position + bit) ≡ bit_at it.values (it.from + bit)
     item-bit it m bit h =
-        held-bit it m (it.position + bit) (omega arith, omega arith)
+        held-bit (λ i k c. c) it m (it.position + bit) (omega arith, omega arith)
         ∙ ap (λ (n : ℕ). bit_at it.values (it.from + n)) {x = it.position + bit - it.position} {y = bit} (omega arith)
 
     -- and every other bit is as it was.
@@ -69,17 +74,20 @@ module _ (items : List Item) (s t : Store) (empty : Empty s) (es : List Entry) (
   -- "writing the accepted items' bits in any order gives the same image": two orders, bit by bit,
   module _ (one two : List Item) (first : Permᴰ items one) (second : Permᴰ items two) (image last last' : List ℕ)
       (put : AllPut one image last) (again : AllPut two image last') where
-    pub two-orders-same-bits : (bit : ℕ) → bit_at last bit ≡ bit_at last' bit
-    two-orders-same-bits bit =
+    same-bits : Whole → (bit : ℕ) → bit_at last bit ≡ bit_at last' bit
+    same-bits whole bit =
         ⊎_elim
-        (λ r. held-bit one first image last put r.0 r.1 bit r.2 ∙ sym (held-bit two second image last' again r.0 r.1 bit r.2))
+        (λ r. held-bit one first image last put whole r.0 r.1 bit r.2 ∙ sym (held-bit two second image last' again whole r.0 r.1 bit r.2))
         (λ none. other-bit one first image last put bit none ∙ sym (other-bit two second image last' again bit none))
         (held-or-free items bit)
+
+    pub two-orders-same-bits : (bit : ℕ) → bit_at last bit ≡ bit_at last' bit
+    two-orders-same-bits bit = same-bits (λ i k c. c) bit
 
     -- and so, in an image of bytes, the same bytes.
     pub two-orders-same-image : ((j : ℕ) → get_or image j 0 < 256) → last ≡ last'
     two-orders-same-image bytes =
-        same_bits last last' (in_bytes put bytes) (in_bytes again bytes) (as_long put ∙ sym (as_long again)) (λ bit _. two-orders-same-bits bit)
+        same_bits last last' (in_bytes put bytes) (in_bytes again bytes) (as_long put ∙ sym (as_long again)) (λ bit _. same-bits (λ i k c. c) bit)
 
 -- Every order can be written, into an image that no item passes the end of.
 pub some-writing : (items order : List Item) → Permᴰ items order → (image : List ℕ)
