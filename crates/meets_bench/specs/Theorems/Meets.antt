@@ -68,18 +68,6 @@ use Rattle.meets_bench.specs.Laws.Same.{answers-same}
 
 -- ---- two good files, and what stood in the room for the overlay's bytes
 
-digits-meet : (image : List ℕ) (first count : ℕ) → Digits image first count (field (take count (drop first image)))
-unfolding field
-digits-meet image first count = says.digits (text-meets (take count (drop first image)) (8 * length (take count (drop first image))))
-
-lines-meet : (load : ℕ) (released overlay : File) (l : List Block)
-    → RunLines load released overlay (origins l) (sizes l) (run_lines load released.image overlay.image (origins l) (sizes l))
-unfolding run_lines run_text
-lines-meet load released overlay [] = says.none
-lines-meet load released overlay (r ∷ l) =
-    says.run (spaced-meets ((load + r.origin) ∷ r.size ∷ [])) (digits-meet released.image r.origin r.size)
-    (digits-meet overlay.image r.origin r.size) (lines-meet load released overlay l)
-
 module _ (load : ℕ) (old : List ℕ) (under issued : List Piece) (near : reach load under ≤ length old) where
   abbrev os : List ℕ
   os = origins (blocks_given load under)
@@ -138,28 +126,23 @@ module _ (load : ℕ) (old : List ℕ) (under issued : List Piece) (near : reach
       (λ y. gives load issued (filled load issued (filled load under old)) b y)
       (λ n. absurd (omega (arith, alone-is-the-first load old under issued (length t.overlay) b (e, n), in_image b e))))
 
-  alone-meets : says.Alone load r o (alone_text load (length t.overlay) alone)
-  unfolding alone_text
-  alone-meets =
-      either (ltb alone (length t.overlay))
-      (λ y. subst (says.Alone load r o) (sym (pick_true _ _ y)) (alone-so (ltb-true alone (length t.overlay) y)))
-      (λ n. subst (says.Alone load r o) (sym (pick-false _ _ n)) (none_so (ltb-false alone (length t.overlay) n)))
-
   many : length (origins (runs_of t)) ≡ length (runs_of t)
   many = length-map (runs_of t) (λ b. b.origin)
 
   runs-are : trial.Runs o.image r.image os ss 0 (origins (runs_of t)) (sizes (runs_of t))
   runs-are = runs-meets o.image r.image os ss (in_order_lem load under)
 
-  list-meets : ListText load r o (answer_text load Runs t os₁ ss₁)
+  -- where each run's line says what it shows, and the last line which byte the overlay alone gives
+  list-meets : ((l : List Block) → RunLines load r o (origins l) (sizes l) (run_lines load r.image o.image (origins l) (sizes l)))
+      → says.Alone load r o (alone_text load (length t.overlay) alone) → ListText load r o (answer_text load Runs t os₁ ss₁)
   unfolding list_text
-  list-meets =
+  list-meets lines last =
       subst (ListText load r o) (sym (pick_true _ _ (in_order_lem load under)))
       (either (leb (length (runs_of t)) runs_room)
       (λ y.
       let few = leb-true (length (runs_of t)) runs_room y in
       subst (ListText load r o) (sym (pick_true _ _ y))
-      (says.listed runs-are (omega (arith, many)) (lines-meet load r o (runs_of t)) alone-meets
+      (says.listed runs-are (omega (arith, many)) (lines (runs_of t)) last
       (subst (λ (n : ℕ). Line (ascii "runs") (n ∷ []) (line (ascii "runs") (length (runs_of t) ∷ []))) (sym many)
       (line-meets (ascii "runs") (length (runs_of t) ∷ [])))))
       (λ n.
@@ -223,25 +206,26 @@ module _ (load : ℕ) (old : List ℕ) (under issued : List Piece) (near : reach
       bit-free : (k : ℕ) → given issued (load + k) ≡ true → Gives r k
       bit-free = gives load issued (filled load issued (filled load under old))
 
-      of-released : says.Free load r o first count → Told Released
-      of-released f =
+      of-released : Digits r.image first count (field (take count (drop first r.image))) → says.Free load r o first count → Told Released
+      of-released shown f =
           either (leb (first + count) gap)
           (λ y.
           let all = leb-true (first + count) gap y in
           subst (Answers load r o first count) (sym (pick_true _ _ y))
           (told-inside (says.of-released f (λ b l h. bit-free b (before-it-is-given load issued first b l (omega arith)))
-          (digits-meet r.image first count))))
+          shown)))
           (λ n.
           let past = leb-false (first + count) gap n in
           let low = first-lack load issued (filled load issued (filled load under old)) first in
           subst (Answers load r o first count) (sym (pick-false _ _ n))
           (told-inside (says.gap f low.so.0 (omega arith) low.so.1 (named-released BadPart refl))))
 
-      judged-so : (w n : Bool) → all_covered (covered_bit os ss) first count ≡ w → none_covered (covered_bit os ss) first count ≡ n
+      judged-so : ((image : List ℕ) → Digits image first count (field (take count (drop first image))))
+          → (w n : Bool) → all_covered (covered_bit os ss) first count ≡ w → none_covered (covered_bit os ss) first count ≡ n
           → Told (pick w Overlay (pick n Released (Refused PartlyCovered)))
-      judged-so true n e f = told-inside (says.of-overlay (whole o.image r.image os ss first count e) (digits-meet o.image first count))
-      judged-so false true e f = of-released (free o.image r.image os ss first count (in_order_lem load under) f)
-      judged-so false false e f =
+      judged-so shown true n e f = told-inside (says.of-overlay (whole o.image r.image os ss first count e) (shown o.image))
+      judged-so shown false true e f = of-released (shown r.image) (free o.image r.image os ss first count (in_order_lem load under) f)
+      judged-so shown false false e f =
           let bare = some-free o.image r.image os ss first count (in_order_lem load under) e in
           let held = some-covered o.image r.image os ss first count f in
           subst (Answers load r o first count) (sym (pick_true _ _ fits))
@@ -250,19 +234,22 @@ module _ (load : ℕ) (old : List ℕ) (under issued : List Piece) (near : reach
           (λ w. bare.2 (w (bare.0 / 8) (omega (arith, bare.1.0)) (omega (arith, bare.1.1)) bare.0 (omega arith) (omega arith)))
           (λ g. g held.0 held.1 held.2) (named-overlay PartlyCovered refl)))
 
-    source-meets : Answers load r o first count (source_text load first count gap lack t)
+    source-meets : ((image : List ℕ) → Digits image first count (field (take count (drop first image))))
+        → Answers load r o first count (source_text load first count gap lack t)
     unfolding source_text source_of
-    source-meets =
+    source-meets shown =
         subst Told (sym (pick_true _ _ (in_order_lem load under)))
         (either (inside (length t.overlay) (length t.released) first count)
         (λ y.
         subst Told (sym (pick_true _ _ y))
-        (judged-so y (all_covered (covered_bit os ss) first count) (none_covered (covered_bit os ss) first count) refl refl))
+        (judged-so y shown (all_covered (covered_bit os ss) first count) (none_covered (covered_bit os ss) first count) refl refl))
         (λ n. subst Told (sym (pick-false _ _ n)) (outside n)))
 
-  range-meets : (address count : ℕ) → RangeText load r o address count (answer_text load (Range address count) t os₁ ss₁)
+  -- where the digits of each range are its bytes
+  range-meets : ((image : List ℕ) (first count : ℕ) → Digits image first count (field (take count (drop first image))))
+      → (address count : ℕ) → RangeText load r o address count (answer_text load (Range address count) t os₁ ss₁)
   unfolding range_text
-  range-meets address count =
+  range-meets shown address count =
       either (eqb count 0)
       (λ y.
       subst (RangeText load r o address count) (sym (pick_true _ _ y))
@@ -276,7 +263,7 @@ module _ (load : ℕ) (old : List ℕ) (under issued : List Piece) (near : reach
       (says.below some (ltb-true address load y) (line-meets (ascii "refused") (16 ∷ 0 ∷ [])) (line-meets (ascii "released") (address ∷ []))))
       (λ m.
       subst (RangeText load r o address count) (sym (pick-false _ _ m))
-      (says.range some (ltb-false address load m) (source-meets (address - load) count some)))))
+      (says.range some (ltb-false address load m) (source-meets (address - load) count some (λ image. shown image (address - load) count))))))
 
 -- ---- a file
 
@@ -502,6 +489,9 @@ module _ (load address count : ℕ) (released overlay mine : List ℕ) (long : l
       abbrev before : File
       before = file_in (filled load g.pieces (filled load f.pieces old.bytes)) (origins (blocks load released g)) (sizes (blocks load released g))
 
+      abbrev o-before : File
+      o-before = file_in (filled load f.pieces old.bytes) (origins (blocks load overlay f)) (sizes (blocks load overlay f))
+
       -- what is said of the two files, said of what was read of them, and of the text in any room
       carried : (Says : File → File → List ℕ → Type 0) (asked : Asked)
           → Says before (file_in (filled load f.pieces old.bytes) (origins (blocks load overlay f)) (sizes (blocks load overlay f))) (shown asked)
@@ -510,27 +500,65 @@ module _ (load address count : ℕ) (released overlay mine : List ℕ) (long : l
           subst (Says (file under) (file over)) (any-text load asked released overlay mine long f g old.bytes room.0)
           (subst (λ (z : File). Says z (file over) (shown asked)) under-is (subst (λ (z : File). Says before z (shown asked)) over-is x))
 
-      both-good : (all : Bool) → Bench load all address count released overlay old (text_of all)
-      both-good true =
-          says.runs (reads_so load overlay f old room) (reads_so load released g (copy over old) (copy-room f)) refl
-          (carried (λ (z y : File) (t : List ℕ). ListText load z y t) Runs (list-meets load old.bytes f.pieces g.pieces there))
-      both-good false =
-          says.ranges (reads_so load overlay f old room) (reads_so load released g (copy over old) (copy-room f)) refl
-          (carried (λ (z y : File) (t : List ℕ). RangeText load z y address count t) (Range address count)
-          (range-meets load old.bytes f.pieces g.pieces there address count))
+      -- what is shown of the two files as they were read, where it says what is asked
+      abbrev Listed : Type 0
+      Listed = ListText load before o-before (shown Runs)
 
-    meets-by : (all : Bool) → Bad load overlay ⊎ Fine load overlay → Bad load released ⊎ Fine load released
+      abbrev Ranged : Type 0
+      Ranged = RangeText load before o-before address count (shown (Range address count))
+
+      both-good : Listed → Ranged → (all : Bool) → Bench load all address count released overlay old (text_of all)
+      both-good l x true =
+          says.runs (reads_so load overlay f old room) (reads_so load released g (copy over old) (copy-room f)) refl
+          (carried (λ (z y : File) (t : List ℕ). ListText load z y t) Runs l)
+      both-good l x false =
+          says.ranges (reads_so load overlay f old room) (reads_so load released g (copy over old) (copy-room f)) refl
+          (carried (λ (z y : File) (t : List ℕ). RangeText load z y address count t) (Range address count) x)
+
+    meets-by : ((f : Fine load overlay) (g : Fine load released) → Listed f g) → ((f : Fine load overlay) (g : Fine load released) → Ranged f g)
+        → (all : Bool) → Bad load overlay ⊎ Fine load overlay → Bad load released ⊎ Fine load released
         → Bench load all address count released overlay old (text_of all)
-    meets-by all (inl b) w =
+    meets-by l x all (inl b) w =
         says.bad-overlay
         (subst (Unread load overlay old (ascii "overlay\n")) (bad-text load (pick all Runs (Range address count)) released overlay mine long b)
         (b.says_so (ascii "overlay\n") old room))
-    meets-by all (inr f) (inl b) =
+    meets-by l x all (inr f) (inl b) =
         says.bad-released (reads_so load overlay f old room)
         (subst (Unread load released (copy (y load overlay f old room) old) (ascii "released\n"))
         (bad-next load (pick all Runs (Range address count)) released overlay mine long f b)
         (b.says_so (ascii "released\n") (copy (y load overlay f old room) old) (copy-room f)))
-    meets-by all (inr f) (inr g) = both-good f g all
+    meets-by l x all (inr f) (inr g) = both-good f g (l f g) (x f g) all
 
   pub bench-text-meets : (all : Bool) → BenchSays load all address count released overlay (text_of all)
-  bench-text-meets all old b o s = meets-by old (b, o, s) all (ways load overlay) (ways load released)
+  unfolding field run_lines run_text alone_text
+  bench-text-meets all old bs fs ns =
+      meets-by old (bs, fs, ns)
+      (λ f g.
+      list-meets load old.bytes f.pieces g.pieces (there old (bs, fs, ns) f g) (lines-meet _ _)
+      (alone-meets old.bytes f.pieces g.pieces (there old (bs, fs, ns) f g)))
+      (λ f g. range-meets load old.bytes f.pieces g.pieces (there old (bs, fs, ns) f g) digits-meet address count)
+      all (ways load overlay) (ways load released)
+    where
+      digits-meet : (image : List ℕ) (first count : ℕ) → Digits image first count (field (take count (drop first image)))
+      digits-meet image first count = says.digits (text-meets (take count (drop first image)) (8 * length (take count (drop first image))))
+
+      lines-meet : (released overlay : File) (l : List Block)
+          → RunLines load released overlay (origins l) (sizes l) (run_lines load released.image overlay.image (origins l) (sizes l))
+      lines-meet released overlay [] = says.none
+      lines-meet released overlay (r ∷ l) =
+          says.run (spaced-meets ((load + r.origin) ∷ r.size ∷ [])) (digits-meet released.image r.origin r.size)
+          (digits-meet overlay.image r.origin r.size) (lines-meet released overlay l)
+
+      alone-meets : (old : List ℕ) (under issued : List Piece) (near : reach load under ≤ length old)
+          → says.Alone load (r load old under issued near) (o load old under issued near)
+          (alone_text load (length (t load old under issued near).overlay) (alone load old under issued near))
+      alone-meets old under issued near =
+          let size : ℕ = length (t load old under issued near).overlay in
+          let first = alone load old under issued near in
+          either (ltb first size)
+          (λ y.
+          subst (says.Alone load (r load old under issued near) (o load old under issued near)) (sym (pick_true _ _ y))
+          (alone-so load old under issued near (ltb-true first size y)))
+          (λ n.
+          subst (says.Alone load (r load old under issued near) (o load old under issued near)) (sym (pick-false _ _ n))
+          (none_so load old under issued near (ltb-false first size n)))
