@@ -25,7 +25,7 @@ use Rattle.prelude.specs.declared.Verdict.TheVariants.{Accepted, Refused as Turn
 use Rattle.bankdef.specs.Check.{banks_of, check_of}
 use Rattle.bankdef.specs.Fill.{fill_by}
 use Rattle.bankdef.specs.declared.Bankdefs.{Bankdefs}
-use Rattle.nodes.specs.Lists.{Lists, Row, Rows, row_at, past_end, row_fault, node_of, nodes_to, lists_of, row_with}
+use Rattle.nodes.specs.Lists.{Lists, Row, Rows, row_at, past_end, node_of, nodes_to, lists_of, row_with}
 use Rattle.resolver.specs.Once.{Program, node, program_with}
 use Rattle.resolver.specs.Passes.{program, row_of_pass, resolution_of}
 use Rattle.resolver.specs.Layout.{unless, layout_of}
@@ -49,7 +49,6 @@ use Rattle.output.specs.Output.{build_of, visits_of, passes_of, settled_of}
 use Rattle.output.specs.Output.{told_build, room_told, placed_told, settled_told, left_by, Builds}
 use Rattle.output.specs.Steps.{InValues, RowBuilt}
 use Rattle.build_visits.specs.declared.Visit.{Visit}
-use Rattle.output.specs.declared.Build.{Build}
 use Rattle.output.specs.declared.Build.TheVariants.{Done, Refused}
 use Rattle.output.specs.declared.Output.{Output}
 

@@ -1,5 +1,4 @@
 -- Uniqueness of each public function, over its contract's own clause: of the build the answer, and what stands in the four lent slices afterwards.
-use mathlib.Core.Path.{◌≡◌}
 use borrow.Fn.Kinds.{ended_of}
 use contract.Lifetimes.{Lfts}
 use denote.Triple.Clauses.{AtExit}

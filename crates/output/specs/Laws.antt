@@ -3,6 +3,5 @@ pub mod Fills
 pub mod ItemBits
 pub mod OffersWithin
 pub mod RaisedLimit
-pub mod RefusedAtNode
 pub mod ReorderLaws
 pub mod SpanFacts

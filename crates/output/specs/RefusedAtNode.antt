@@ -11,7 +11,7 @@ use Rattle.iter.specs.declared.Moved.TheVariants.{To}
 use Rattle.nodes.specs.Kinds.{size_of}
 use Rattle.resolver.specs.declared.Settled.TheVariants.{At}
 use Rattle.overlap_checker.specs.declared.Entry.{Entry}
-use Rattle.overlap_checker.specs.State.{State, answer}
+use Rattle.overlap_checker.specs.State.{State}
 use Rattle.build_visits.specs.declared.Visit.{Visit}
 use Rattle.build_visits.specs.Items.{is_written}
 use Rattle.build_plan.specs.Placing.{is_placed, uses_default, ends_past, lacks_output, offer_of, offers_of}

@@ -1,14 +1,5 @@
-pub mod Calls
 pub mod DefaultBank
-pub mod Fills
-pub mod Gaps
-pub mod ItemBits
-pub mod OffersMade
 pub mod OffersWithin
-pub mod Padding
 pub mod Reached
-pub mod RefusedAtNode
-pub mod Reordered
 pub mod Rooms
-pub mod SpanFacts
 pub mod Unique

@@ -12,9 +12,9 @@ use Rattle.bankdef.specs.Theorems.FullFill.{full-reaches, full-ends}
 use Rattle.bankdef.specs.FullFill.{FullEnd}
 use Rattle.resolver.specs.Once.{bank_record}
 use Rattle.output.specs.Calls.{Accepted, nodes_in, visit_in, visits_in, items_in, program_in, row_in, closed_in}
-use Rattle.output.specs.Theorems.Calls.{fine}
-use Rattle.output.specs.Theorems.Fills.{full-fills-all}
-use Rattle.output.specs.Theorems.ItemBits.{item-has-written-node, length-not-below-fill, length-is-fill-or-end}
+use Rattle.output.proofs.Calls.{fine}
+use Rattle.output.proofs.Fills.{full-fills-all}
+use Rattle.output.proofs.ItemBits.{item-has-written-node, length-not-below-fill, length-is-fill-or-end}
 use Rattle.build_visits.specs.Items.{Item, end_of}
 use Rattle.build_plan.specs.Placing.{ends_past}
 use Rattle.build_plan.specs.Laws.PlacingLaws.{each-accepted}

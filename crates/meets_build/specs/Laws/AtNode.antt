@@ -14,8 +14,8 @@ use Rattle.output.specs.Output as out
 use Rattle.output.specs.Output.{Builds}
 use Rattle.output.specs.RefusedAtNode as at-node
 use Rattle.output.specs.RefusedAtNode.{Reaches, RefusedThere}
-use Rattle.output.specs.Theorems.RefusedAtNode.{GetsPast, refused-9-exactly, refused-10-exactly, refused-11-exactly, refused-12-exactly}
-use Rattle.output.specs.Theorems.RefusedAtNode.{refused-12-empty-exactly, refused-13-exactly, refused-13-empty-exactly}
+use Rattle.output.proofs.RefusedAtNode.{GetsPast, refused-9-exactly, refused-10-exactly, refused-11-exactly, refused-12-exactly}
+use Rattle.output.proofs.RefusedAtNode.{refused-12-empty-exactly, refused-13-exactly, refused-13-empty-exactly}
 use Rattle.output.specs.declared.Output.{Output}
 use Rattle.build_plan.specs.Placing.{offer_of}
 use Rattle.resolver.specs.Layout.{Checked}

@@ -18,15 +18,15 @@ use Rattle.blocks.specs.Offsets.{word_of}
 use Rattle.iter.specs.Address.{out_at, units_from}
 use Rattle.iter.specs.Distance.{tellable}
 use Rattle.output.specs.Calls.{Call, Accepted, visit_in, nodes_in, visits_before, items_in, spans_in, values_in}
-use Rattle.output.specs.Theorems.Calls.{blank_in, left_is, fine}
-use Rattle.output.specs.Theorems.Gaps.{gap-takes-fill-bit, rest-zero-past-length, rest-zero-unfilled, InNoItem}
-use Rattle.output.specs.Theorems.ItemBits.{image-is, item-own-bit}
+use Rattle.output.proofs.Calls.{blank_in, left_is, fine}
+use Rattle.output.proofs.Gaps.{gap-takes-fill-bit, rest-zero-past-length, rest-zero-unfilled, InNoItem}
+use Rattle.output.proofs.ItemBits.{image-is, item-own-bit}
 use Rattle.output.specs.Output as out
 use Rattle.output.specs.Output.{Builds}
 use Rattle.output.specs.SpanFacts.{spans_among}
 use Rattle.output.specs.Laws.SpanFacts.{spans-counted}
-use Rattle.output.specs.Theorems.SpanFacts.{span-count, span-address, span-offset, span-size-label, span-size-item}
-use Rattle.output.specs.Theorems.SpanFacts.{old-addresses-stay, old-offsets-stay, old-sizes-stay}
+use Rattle.output.proofs.SpanFacts.{span-count, span-address, span-offset, span-size-label, span-size-item}
+use Rattle.output.proofs.SpanFacts.{old-addresses-stay, old-offsets-stay, old-sizes-stay}
 use Rattle.output.specs.declared.Build.TheVariants.{Done}
 use Rattle.output.specs.declared.Output.{Output}
 use Rattle.build_plan.specs.Theorems.Kinds.{span-exactly}

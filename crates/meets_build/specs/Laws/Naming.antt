@@ -20,7 +20,7 @@ use Rattle.output.specs.OffersWithin.{OffsetsFit}
 use Rattle.output.specs.Output as out
 use Rattle.output.specs.Output.{Builds}
 use Rattle.output.specs.RefusedAtNode.{Reaches, RefusedThere, offers_before}
-use Rattle.output.specs.Theorems.RefusedAtNode.{GetsPast, stored-from-offers, offers-are-stored, refused-12-names}
+use Rattle.output.proofs.RefusedAtNode.{GetsPast, stored-from-offers, offers-are-stored, refused-12-names}
 use Rattle.output.specs.declared.Output.{Output}
 use Rattle.build_plan.specs.Placing.{offer_of}
 use Rattle.build_plan.specs.Laws.PlacingLaws.{placed-accepts}

@@ -8,8 +8,8 @@ use Rattle.prelude.specs.declared.Refusal.{Refusal}
 use Rattle.prelude.specs.declared.Refusal.TheVariants.{TooShort}
 use Rattle.iter.specs.declared.Lost.{Lost}
 use Rattle.output.specs.Calls.{Call, closed_in, visits_in, program_in, row_in}
-use Rattle.output.specs.Laws.Calls.{padding-is}
-use Rattle.output.specs.Theorems.OffersMade.{refused-where}
+use Rattle.output.proofs.CallsLaws.{padding-is}
+use Rattle.output.proofs.OffersMade.{refused-where}
 use Rattle.output.specs.Output as out
 use Rattle.output.specs.Output.{room_of, room_for, placed_build, padding_by, settled_build, settled_of, passes_of, build_of, Builds}
 use Rattle.output.specs.declared.Build.{Build}

@@ -12,7 +12,7 @@ use Rattle.output.specs.Output as out
 use Rattle.output.specs.Output.{Builds, settled_of}
 use Rattle.output.specs.OffersMade.{FirstRefused}
 use Rattle.output.specs.RefusedAtNode.{Reaches, RefusedThere, Cause}
-use Rattle.output.specs.Laws.RefusedAtNode.{cause-of, there}
+use Rattle.output.proofs.RefusedAtNodeLaws.{cause-of, there}
 use Rattle.prelude.specs.Refusals.{number_of, place_of}
 use Rattle.output.specs.declared.Output.{Output}
 use Rattle.overlap_checker.specs.Folds.{nonzero, empties}

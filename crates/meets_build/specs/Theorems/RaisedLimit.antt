@@ -6,7 +6,7 @@ use Rattle.std.proofs.Common.{sym, ap, subst, ◌∙◌, arith}
 use Rattle.prelude.specs.Refusals.{number_of}
 use Rattle.prelude.specs.Theorems.Told.{number-some}
 use Rattle.output.specs.Calls.{Accepted}
-use Rattle.output.specs.Laws.Calls.{settled_is}
+use Rattle.output.proofs.CallsLaws.{settled_is}
 use Rattle.output.specs.Output as out
 use Rattle.output.specs.Output.{room_of, build_of}
 use Rattle.output.specs.Laws.RaisedLimit.{same-outcome-above}

@@ -21,7 +21,7 @@ use Rattle.build_plan.specs.Placing.{Placed, holds, stops, placed_if, placed_all
 use Rattle.build_plan.specs.Laws.PlacingLaws.{stops-holds}
 use Rattle.output.specs.Calls.{Call, closed_in, visits_in, visit_in, program_in, row_in}
 use Rattle.output.specs.OffersMade.{FirstRefused}
-use Rattle.output.specs.Theorems.OffersMade.{refused-where}
+use Rattle.output.proofs.OffersMade.{refused-where}
 use Rattle.output.specs.Output as out
 use Rattle.output.specs.Output.{Input, room_of, build_of, closed_of, visits_of, passes_of, settled_of}
 use Rattle.output.specs.declared.Output.{Output}

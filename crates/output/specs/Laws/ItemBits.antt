@@ -3,7 +3,7 @@ use Rattle.std.specs.Prelude.{◌≡◌, refl, Bool, true, false, ℕ}
 use Rattle.std.proofs.Common.{sym, subst}
 use mathlib.Core.List.Memᴰ
 use mathlib.Core.List.{List, [], Memᴰ}
-use Rattle.prelude.specs.Laws.Bools.{or_left, or_right}
+use Rattle.prelude.specs.Laws.Bools.{or_left}
 use Rattle.prelude.specs.Pick.{pick}
 use Rattle.prelude.specs.Laws.Pick.{pick_true}
 use Rattle.prelude.specs.declared.Offset.{Offset}

@@ -9,8 +9,6 @@ use Rattle.resolver.specs.declared.Settled.{Settled}
 use Rattle.resolver.specs.declared.Settled.TheVariants.{At, Refused as Unsettled}
 use Rattle.build_plan.specs.Placing.{closes_default}
 use Rattle.output.specs.Output.{Input, Room, output_of, passes_of, settled_of, visits_of, fill_of, build_row, settled_build, build_of}
-use Rattle.output.specs.Calls.{Call}
-use Rattle.output.specs.RefusedAtNode.{Reaches}
 use Rattle.output.specs.DefaultBank.{with_closed}
 
 -- Where other banks exist the choice changes no answer.

@@ -13,7 +13,7 @@ use Rattle.iter.specs.Step.{origin, no_lost, start_of, seen_of, moved_on, advanc
 use Rattle.iter.specs.declared.Lost.{Lost}
 use Rattle.resolver.specs.KnownInPass.{bank_at}
 use Rattle.resolver.specs.Layout.{layout_of}
-use Rattle.nodes.specs.Lists.{lists, nodes_to, any_row_fault, lists_of}
+use Rattle.nodes.specs.Lists.{nodes_to, any_row_fault, lists_of}
 use Rattle.resolver.specs.Once.{walk_to, pass_to}
 use Rattle.resolver.specs.Passes.{first, settled_by}
 use Rattle.resolver.specs.Padding.{sum_in, padding_of}
@@ -28,8 +28,8 @@ use Rattle.output.specs.Output.{Lent, Room, room_of, room_for, padding_by, build
 use Rattle.build_plan.specs.Plan.{paddings_of}
 use Rattle.build_plan.specs.Laws.Plan.{get_d-of-banks}
 use Rattle.output.specs.Calls.{Accepted, program_in, row_in, nodes_in, visit_in, visits_in, closed_in}
-use Rattle.output.specs.Theorems.Calls.{fine}
-use Rattle.output.specs.Laws.Calls.{padding-is}
+use Rattle.output.proofs.Calls.{fine}
+use Rattle.output.proofs.CallsLaws.{padding-is}
 use Rattle.output.specs.declared.Build.TheVariants.{Done}
 use Rattle.output.specs.declared.Output.{Output}
 use Rattle.output.specs.Padding.{reserve_then_align, seven_bits}

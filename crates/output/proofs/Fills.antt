@@ -9,12 +9,10 @@ use Rattle.bankdef.specs.FillBits.{ones_in}
 use Rattle.bitvec.specs.Bits.{of_bits}
 use Rattle.bitvec.specs.Lists.{list_of}
 use Rattle.bitvec.specs.Numeral.{numeral}
-use Rattle.nodes.specs.Lists.{lists}
 use Rattle.build_visits.specs.Visits.{visits_to, each}
 use Rattle.build_visits.specs.Items.{image_of}
 use Rattle.build_write.specs.Blank.{blank_of}
 use Rattle.output.specs.Output.{Input, fill_of, Lent, room_of, visits_of, left_by, Builds}
-use Rattle.output.specs.Calls.{Accepted}
 use Rattle.output.specs.declared.Build.TheVariants.{Done}
 use Rattle.output.specs.declared.Output.{Output}
 use Rattle.output.specs.Fills.{lock_banks, lock_build}

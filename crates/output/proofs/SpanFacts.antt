@@ -21,7 +21,7 @@ use Rattle.build_visits.specs.Spans.{Span, is_span, span_at, span_of, over, addr
 use Rattle.build_plan.specs.Laws.PlacingLaws.{holds-apart, apart-one, each-apart}
 use Rattle.output.specs.Output.{Lent}
 use Rattle.output.specs.Calls.{Accepted, nodes_in, visit_in, visits_in, spans_in, closed_in}
-use Rattle.output.specs.Theorems.Calls.{fine, left_is}
+use Rattle.output.proofs.Calls.{fine, left_is}
 use Rattle.output.specs.Laws.SpanFacts.{InShown, lent-apart, shown-at, span-offered, spans-counted, told-address}
 use Rattle.output.specs.SpanFacts.{spans_among}
 

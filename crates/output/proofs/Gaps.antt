@@ -13,11 +13,11 @@ use Rattle.bitvec.specs.Bits.{bit_at}
 use Rattle.build_visits.specs.Items.{Item, InItem}
 use Rattle.build_write.specs.Laws.Blank.{blank-bit, blank-zeros}
 use Rattle.build_visits.specs.Laws.ItemLaws.{zeros-bit}
-use Rattle.output.specs.Theorems.ItemBits.{rest-blank, length-fits}
+use Rattle.output.proofs.ItemBits.{rest-blank, length-fits}
 use Rattle.output.specs.Output.{filled}
 use Rattle.output.specs.Calls.{Accepted, items_in, visits_in, values_in}
-use Rattle.output.specs.Theorems.Calls.{left_is}
-use Rattle.output.specs.Laws.Calls.{banks-sound}
+use Rattle.output.proofs.Calls.{left_is}
+use Rattle.output.proofs.CallsLaws.{banks-sound}
 use Rattle.output.specs.Gaps.{AllClear}
 
 module _ (b : Accepted) where

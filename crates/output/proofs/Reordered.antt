@@ -13,9 +13,9 @@ use Rattle.build_write.specs.Blank.{blank_of}
 use Rattle.output.specs.Laws.ReorderLaws.{put, put-swap, max-swap, apart-reordered}
 use Rattle.output.specs.Output.{Lent}
 use Rattle.output.specs.Calls.{Accepted, items_in, values_in}
-use Rattle.output.specs.Theorems.Calls.{fine, blank_in, left_is}
+use Rattle.output.proofs.Calls.{fine, blank_in, left_is}
 use Rattle.output.specs.ItemBits.{fill_in}
-use Rattle.output.specs.Theorems.ItemBits.{items-share-no-bit}
+use Rattle.output.proofs.ItemBits.{items-share-no-bit}
 use Rattle.output.specs.Reordered.{WrittenInTurn, none_left, one_then}
 
 -- ---- lists of items

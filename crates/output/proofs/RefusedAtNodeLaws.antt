@@ -36,7 +36,7 @@ use Rattle.build_plan.specs.Laws.PlacingLaws.{placed-append, placed-last, stops-
 use Rattle.build_plan.specs.Theorems.PlacingLaws.{checked-opens}
 use Rattle.output.specs.Output.{Input, closed_of, room_of, placed_build, settled_build, fill_of, told_build}
 use Rattle.output.specs.Calls.{Call, nodes_in, closed_in, program_in, row_in, visit_in, visits_in, visits_before}
-use Rattle.output.specs.Laws.Calls.{build-is}
+use Rattle.output.proofs.CallsLaws.{build-is}
 use Rattle.output.specs.RefusedAtNode.{Cause, Closed, Reaches, RefusedThere, eleven, nine, store, ten}
 
 -- ---- the tests mean that

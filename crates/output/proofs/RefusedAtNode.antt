@@ -33,8 +33,8 @@ use Rattle.build_plan.specs.Laws.PlacingLaws.{picked-some, offer-is, placed-acce
 use Rattle.output.specs.OffersWithin.{OffsetsFit}
 use Rattle.output.specs.Theorems.OffersWithin.{offers-within}
 use Rattle.output.specs.Calls.{Call, closed_in, program_in, row_in, visit_in, visits_before}
-use Rattle.output.specs.Laws.RefusedAtNode.{cause-there, decided, gave-refused, holds_not, lacks, not-holds, nowhere, past}
-use Rattle.output.specs.Laws.RefusedAtNode.{perm-length, same-told, store-number, there, uses-default}
+use Rattle.output.proofs.RefusedAtNodeLaws.{cause-there, decided, gave-refused, holds_not, lacks, not-holds, past}
+use Rattle.output.proofs.RefusedAtNodeLaws.{perm-length, same-told, store-number, there, uses-default}
 use Rattle.output.specs.RefusedAtNode.{Cause, Eleven, Nine, PlacedKind, Reaches, RefusedThere, Ten, eleven, nine, offers_before, store, ten}
 
 module _ (c : Call) (n : ℕ) (r : Reaches c n) where

@@ -19,7 +19,7 @@ use Rattle.build_plan.specs.Placing.{Placed, holds, stops, placed_if, placed_nex
 use Rattle.build_plan.specs.Laws.PlacingLaws.{placed-last}
 use Rattle.output.specs.Output.{room_of, placed_build, settled_build, settled_of, fill_of}
 use Rattle.output.specs.Calls.{Call, nodes_in, closed_in, program_in, row_in, visit_in, visits_in, visits_before}
-use Rattle.output.specs.Laws.Calls.{build-is}
+use Rattle.output.proofs.CallsLaws.{build-is}
 use Rattle.output.specs.OffersMade.{FirstRefused}
 
 module _ (c : Call) where

@@ -21,9 +21,9 @@ use Rattle.build_plan.specs.Laws.PlacingLaws.{picked-some, holds-apart, each-apa
 use Rattle.build_plan.specs.PlacingLaws.{OfferedBit}
 use Rattle.output.specs.Output.{Lent}
 use Rattle.output.specs.Calls.{Accepted, nodes_in, visit_in, visits_in, items_in, values_in, program_in, row_in, closed_in}
-use Rattle.output.specs.Theorems.Calls.{fine, blank_in, left_is}
+use Rattle.output.proofs.Calls.{fine, blank_in, left_is}
 use Rattle.output.specs.ItemBits.{fill_in, item_for}
-use Rattle.output.specs.Laws.ItemBits.{item-offered, offered, one-item}
+use Rattle.output.specs.Laws.ItemBits.{item-offered, one-item}
 
 module _ (b : Accepted) where
   -- And every item is a written node's.

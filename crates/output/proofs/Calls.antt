@@ -6,7 +6,7 @@ use Rattle.build_write.specs.Blank.{blank_of}
 use Rattle.output.specs.Output.{room_of}
 use Rattle.output.specs.Output.{fill_of, settled_of, filled, left_by}
 use Rattle.output.specs.Calls.{Accepted, Fine, closed_in, values_in, visits_in}
-use Rattle.output.specs.Laws.Calls.{build-is, settled-fine}
+use Rattle.output.proofs.CallsLaws.{build-is, settled-fine}
 
 module _ (a : Accepted) where
   pub fine : Fine (closed_in a.call) (visits_in a.call) (fill_of a.call.given) (room_of a.call.old) a.bits a.spans
