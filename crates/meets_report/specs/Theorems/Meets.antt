@@ -59,11 +59,12 @@ module _ (file : List ℕ) (small : Bytes file) (fill : ℕ) (page : Opt) (old :
   told-of : (o : Output) → o ≡ its → FormTold file fill page (lent_of old) (outcome-of file old o).answer (lent_of (outcome-of file old o).lent)
   told-of o is = rw is (record { answer = refl; built = record { answer = refl; left = refl } })
 
-  prints-of : (o : Output) → o ≡ its → Lends old → Reports (outcome-of file old o) (report_text file fill page)
-  prints-of o is lends =
+  prints-of : (o : Output) → o ≡ its → Lends old → length (left-of file old o).offsets ≡ length (left-of file old o).sizes
+      → Reports (outcome-of file old o) (report_text file fill page)
+  prints-of o is lends same =
       rw is (subst (Reports (outcome-of file old its))
       (file-text file fill page small (lent_of old) lends.0 lends.1 lends.2 lends.3 its (left-of file old its) (record { answer = refl; left = refl }))
-      (shown its.passes its.padding its.build (lent_so (left-of file old its)) (as-paired-of file old its (lends.2 ∙ sym lends.3))))
+      (shown its.passes its.padding its.build (lent_so (left-of file old its)) (rw is at same)))
 
 -- what the library says of the file
 pub layout-of : (file : List ℕ) (small : Bytes file) (fill : ℕ) (page : Opt) (old : Lent)
@@ -96,7 +97,7 @@ module _ (file : List ℕ) (small : Bytes file) (fill : ℕ) (page : Opt) (old :
   as-paired = as-paired-of file old answer
 
   prints : Lends old → Reports outcome (report_text file fill page)
-  prints lends = prints-of file small fill page old answer refl lends
+  prints lends = prints-of file small fill page old answer refl lends (as-paired (lends.2 ∙ sym lends.3))
 
 -- so `layout-meets`, of the outcome by its name
 pub layout-meets : (file : List ℕ) (small : Bytes file) (fill : ℕ) (page : Opt) (old : Lent)
@@ -106,4 +107,5 @@ layout-meets file small fill page old = layout-of file small fill page old
 pub report-meets : (file : List ℕ) → Bytes file → (fill : ℕ) (page : Opt) → ReportSays file fill page (report_text file fill page)
 report-meets file small fill page old lends =
     let o = file_output file fill page (room_of (lent_of old)) in
-    (outcome-of file old o, layout-of file small fill page old, prints-of file small fill page old o refl lends)
+    let same = as-paired-of file old o (lends.2 ∙ sym lends.3) in
+    (outcome-of file old o, layout-of file small fill page old, prints-of file small fill page old o refl lends same)
