@@ -1,3 +1,0 @@
-pub mod EntryLaws
-pub mod MapLaws
-pub mod Unique

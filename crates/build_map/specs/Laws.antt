@@ -1,4 +1,0 @@
-pub mod Calls
-pub mod Entries
-pub mod Reached
-pub mod TracedLaws

@@ -1,4 +1,0 @@
-pub mod InProfile
-pub mod Nineteen
-pub mod Pages
-pub mod Ragged

@@ -1,4 +1,0 @@
-pub mod Filed
-pub mod Paged
-pub mod Theorems
-pub mod Laws

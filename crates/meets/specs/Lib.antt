@@ -1,3 +1,0 @@
-pub mod Table
-pub mod Laws
-pub mod Theorems

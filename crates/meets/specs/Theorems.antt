@@ -1,4 +1,0 @@
-pub mod Banks
-pub mod Ordered
-pub mod Blocks
-pub mod Cases

@@ -1,2 +1,0 @@
-pub mod Decides
-pub mod Meets

@@ -1,3 +1,0 @@
-pub mod Handed
-pub mod Sizes
-pub mod Theorems

@@ -1,4 +1,0 @@
-pub mod Meets
-pub mod Promised
-pub mod Distances
-pub mod RaisedLimit

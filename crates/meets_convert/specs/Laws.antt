@@ -1,4 +1,0 @@
-pub mod Answers
-pub mod Bytes
-pub mod Calls
-pub mod Turns

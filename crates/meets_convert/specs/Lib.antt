@@ -1,3 +1,0 @@
-pub mod Built
-pub mod Laws
-pub mod Theorems

@@ -1,4 +1,0 @@
-pub mod FormDecides
-pub mod FormExactly
-pub mod FormMeets
-pub mod Forms

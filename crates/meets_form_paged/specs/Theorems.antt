@@ -1,4 +1,0 @@
-pub mod Broken
-pub mod Decides
-pub mod Exactly
-pub mod Meets

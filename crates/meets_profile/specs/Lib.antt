@@ -1,3 +1,0 @@
-pub mod Ticket9
-pub mod Laws
-pub mod Theorems

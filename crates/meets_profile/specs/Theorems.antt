@@ -1,5 +1,0 @@
-pub mod Decides
-pub mod Meets
-pub mod Ticket9
-pub mod Cases
-pub mod Calls

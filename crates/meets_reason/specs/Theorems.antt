@@ -1,3 +1,0 @@
-pub mod Decides
-pub mod Meets
-pub mod Told

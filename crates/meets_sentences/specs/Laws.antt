@@ -1,4 +1,0 @@
-pub mod One
-pub mod First
-pub mod Items
-pub mod Why

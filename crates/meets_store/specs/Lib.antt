@@ -1,3 +1,0 @@
-pub mod Calls
-pub mod Laws
-pub mod Theorems

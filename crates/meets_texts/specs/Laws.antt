@@ -1,3 +1,0 @@
-pub mod AnyRoom
-pub mod Bytes
-pub mod Shown

@@ -1,3 +1,0 @@
-pub mod Printed
-pub mod Laws
-pub mod Theorems

@@ -1,3 +1,0 @@
-pub mod Convert
-pub mod Reason
-pub mod Rehex

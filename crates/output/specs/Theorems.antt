@@ -1,5 +1,0 @@
-pub mod DefaultBank
-pub mod OffersWithin
-pub mod Reached
-pub mod Rooms
-pub mod Unique

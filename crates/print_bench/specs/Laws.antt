@@ -1,3 +1,0 @@
-pub mod Cover
-pub mod Free
-pub mod Loading

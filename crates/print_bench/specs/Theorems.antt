@@ -1,3 +1,0 @@
-pub mod Given
-pub mod Printed
-pub mod Runs

@@ -1,4 +1,0 @@
-pub mod Text
-pub mod Steps
-pub mod Theorems
-pub mod Laws

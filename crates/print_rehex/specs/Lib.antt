@@ -1,4 +1,0 @@
-pub mod Rehex
-pub mod Steps
-pub mod Theorems
-pub mod Laws

@@ -1,4 +1,0 @@
-pub mod Program
-pub mod Room
-pub mod Theorems
-pub mod Laws

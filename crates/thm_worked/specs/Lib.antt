@@ -1,3 +1,0 @@
-pub mod March
-pub mod Theorems
-pub mod Laws
