@@ -1,0 +1,4 @@
+pub mod Calls
+pub mod Entries
+pub mod Reached
+pub mod TracedLaws

@@ -1,0 +1,5 @@
+pub mod Calls
+pub mod Map
+pub mod Steps
+pub mod Theorems
+pub mod Laws

@@ -1,0 +1,5 @@
+pub mod Calls
+pub mod Entries
+pub mod Reached
+pub mod Shown
+pub mod Unique

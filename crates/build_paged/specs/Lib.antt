@@ -1,0 +1,5 @@
+pub mod InProfile
+pub mod Pages
+pub mod Ragged
+pub mod Theorems
+pub mod Laws

@@ -1,0 +1,4 @@
+pub mod InProfile
+pub mod Nineteen
+pub mod Pages
+pub mod Ragged

@@ -1,0 +1,10 @@
+pub mod Conversions
+pub mod Forms
+pub mod Maps
+pub mod Overlays
+pub mod Parts
+pub mod Profiles
+pub mod Reasons
+pub mod RecordFiles
+pub mod Stores
+pub mod Tables

@@ -1,0 +1,7 @@
+pub mod ConversionLaws
+pub mod FormLaws
+pub mod MapLaws
+pub mod ProfileLaws
+pub mod StoreLaws
+pub mod TableLaws
+pub mod Unique

@@ -1,0 +1,53 @@
+// The store of placed intervals and marks, in three arrays and two counts that the caller keeps between calls.
+ghost use Rattle.says.specs.Store.{OfferSays};
+ghost use Rattle.says.specs.Offers.{OffersSay};
+
+use c_answers::{DkOffer, DkOffered};
+
+// An offer of `size` bits from bit `position` on to a store: it tries 15, 4, 12, 13. Accepted, it is put in, with bits among the intervals, without
+// among the marks.
+#[unsafe(no_mangle)]
+pub extern "C" fn dk_offer(
+    positions: &mut [u64; 512],
+    sizes: &mut [u64; 512],
+    count: u64,
+    marks: &mut [u64; 512],
+    mark_count: u64,
+    position: u64,
+    size: u64,
+) -> DkOffer
+    ensures { OfferSays
+        (record { positions = positions.old; sizes = sizes.old; count = count; marks = marks.old; mark_count = mark_count })
+        (record { position = position; size = size })
+        (record { answer = result; positions = positions.new; sizes = sizes.new; marks = marks.new }) }
+{
+    denkumari::dk_offer(positions, sizes, count, marks, mark_count, position, size)
+}
+
+// A list of offers to a store, all or none: it tries 15 once, 4 where the lists are not of one length, then 4, 12, 13 of each offer in turn. All accepted, the
+// store is what so many calls of `dk_offer` leave; one refused, nothing that is lent changes.
+#[unsafe(no_mangle)]
+pub extern "C" fn dk_offers(
+    positions: &mut [u64; 512],
+    sizes: &mut [u64; 512],
+    count: u64,
+    marks: &mut [u64; 512],
+    mark_count: u64,
+    offer_positions: &[u64],
+    offer_sizes: &[u64],
+) -> DkOffered
+    ensures { OffersSay
+        (record { positions = positions.old; sizes = sizes.old; count = count; marks = marks.old; mark_count = mark_count })
+        offer_positions.now offer_sizes.now
+        (record { answer = result; positions = positions.new; sizes = sizes.new; marks = marks.new }) }
+{
+    denkumari::dk_offers(
+        positions,
+        sizes,
+        count,
+        marks,
+        mark_count,
+        offer_positions,
+        offer_sizes,
+    )
+}

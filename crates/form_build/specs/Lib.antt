@@ -1,0 +1,4 @@
+pub mod Filed
+pub mod Paged
+pub mod Theorems
+pub mod Laws

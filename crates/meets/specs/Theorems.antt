@@ -1,0 +1,4 @@
+pub mod Banks
+pub mod Ordered
+pub mod Blocks
+pub mod Cases

@@ -1,0 +1,2 @@
+// Theorems over the words that all sentences are made of, over banks and over blocks. There is no code here.
+#![tactic(auto)]

@@ -1,0 +1,3 @@
+pub mod Handed
+pub mod Sizes
+pub mod Theorems

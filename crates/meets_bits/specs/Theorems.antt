@@ -1,0 +1,5 @@
+pub mod Hex
+pub mod Part
+pub mod Blocks
+pub mod Cases
+pub mod Sizes

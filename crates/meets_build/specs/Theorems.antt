@@ -1,0 +1,4 @@
+pub mod Meets
+pub mod Promised
+pub mod Distances
+pub mod RaisedLimit

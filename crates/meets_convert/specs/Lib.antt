@@ -1,0 +1,3 @@
+pub mod Built
+pub mod Laws
+pub mod Theorems

@@ -1,0 +1,4 @@
+pub mod FormDecides
+pub mod FormExactly
+pub mod FormMeets
+pub mod Forms

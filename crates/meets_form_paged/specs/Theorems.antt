@@ -1,0 +1,4 @@
+pub mod Broken
+pub mod Decides
+pub mod Exactly
+pub mod Meets

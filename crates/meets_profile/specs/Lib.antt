@@ -1,0 +1,3 @@
+pub mod Ticket9
+pub mod Laws
+pub mod Theorems

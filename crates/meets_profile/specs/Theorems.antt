@@ -1,0 +1,5 @@
+pub mod Decides
+pub mod Meets
+pub mod Ticket9
+pub mod Cases
+pub mod Calls

@@ -1,0 +1,11 @@
+pub mod Bytes
+pub mod Chain
+pub mod Formats
+pub mod Items
+pub mod NoReason
+pub mod One
+pub mod Span
+pub mod Spelling
+pub mod Stops
+pub mod Trails
+pub mod Typed

@@ -1,0 +1,17 @@
+pub mod One
+pub mod Spelled
+pub mod HexLine
+pub mod SrecLine
+pub mod Faults
+pub mod Sits
+pub mod Told
+pub mod Formats
+pub mod WrittenText
+pub mod Cut
+pub mod Places
+pub mod Front
+pub mod GivenBytes
+pub mod BlocksRead
+pub mod OwnFile
+pub mod Has
+pub mod CutBytes

@@ -1,0 +1,14 @@
+pub mod WriteDecides
+pub mod ReadDecides
+pub mod FaultDecides
+pub mod WriteMeets
+pub mod FaultMeets
+pub mod Extent
+pub mod ReadMeets
+pub mod Checksums
+pub mod Cases
+pub mod SameReading
+pub mod Scratch
+pub mod ReadBack
+pub mod Rewritten
+pub mod AnyLength

@@ -1,0 +1,5 @@
+pub mod Meets
+pub mod Decides
+pub mod Promised
+pub mod RecordsMeets
+pub mod RecordsDecide

@@ -1,0 +1,4 @@
+pub mod One
+pub mod First
+pub mod Items
+pub mod Why

@@ -1,0 +1,5 @@
+pub mod Grounds
+pub mod InTurn
+pub mod Typed
+pub mod Theorems
+pub mod Laws

@@ -1,0 +1,12 @@
+pub mod Decides
+pub mod Meets
+pub mod Offers
+pub mod Refused
+pub mod Demand3
+pub mod Marks
+pub mod Runs
+pub mod Order
+pub mod Cases
+pub mod Exactly
+pub mod Named
+pub mod AnyOrder

@@ -1,0 +1,3 @@
+pub mod AnyRoom
+pub mod Bytes
+pub mod Shown

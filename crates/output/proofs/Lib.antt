@@ -1,0 +1,14 @@
+pub mod BuildLaws
+pub mod Calls
+pub mod CallsLaws
+pub mod Fills
+pub mod Gaps
+pub mod ItemBits
+pub mod OffersMade
+pub mod Padding
+pub mod RefusedAtNode
+pub mod RefusedAtNodeLaws
+pub mod Reordered
+pub mod SettledLaws
+pub mod SpanFacts
+pub mod Unique

@@ -1,0 +1,17 @@
+pub mod Calls
+pub mod DefaultBank
+pub mod Fills
+pub mod Gaps
+pub mod ItemBits
+pub mod OffersMade
+pub mod OffersWithin
+pub mod Output
+pub mod Padding
+pub mod RaisedLimit
+pub mod RefusedAtNode
+pub mod Reordered
+pub mod Rooms
+pub mod SpanFacts
+pub mod Steps
+pub mod Theorems
+pub mod Laws

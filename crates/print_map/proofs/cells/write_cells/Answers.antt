@@ -1,0 +1,21 @@
+use mathlib.Core.Path.{sym}
+use Prim.Native.Nat.{◌-◌}
+use native.Mathlib.Omega.{arith}
+use Rattle.print_map.proofs.Lines.{cells-none, cells-next, written_as}
+use Rattle.print_text.specs.Laws.Sets.{writes_then, writes_byte, writes-none}
+use Rattle.print_map.proofs.cells.write_cells.Goals as goal
+
+pub loop-i-init : goal.loop-i-init
+loop-i-init c =
+    let a = c.args in
+    (omega arith, omega arith, written_as (sym (cells-none a.marks.now a.numbers.now)) (writes-none a.out.now a.at))
+
+pub loop-i-preserved : goal.loop-i-preserved
+loop-i-preserved c =
+    let a = c.args in
+    let l = c.loop-i in
+    let w = c.write_cell-end.ensures in (
+      omega (arith, c.loop-i-test.true),
+      omega (arith, l.invariant.1, w.upper_bound),
+      written_as (sym (cells-next a.marks.now a.numbers.now l.i)) (writes_then l.invariant.2 (writes_then (writes_byte 32) w.writes)),
+    )

@@ -1,0 +1,5 @@
+pub mod Marks
+pub mod Printed
+pub mod ReadBack
+pub mod Unique
+pub mod SameText

@@ -1,0 +1,4 @@
+pub mod Rehex
+pub mod Steps
+pub mod Theorems
+pub mod Laws

@@ -1,0 +1,4 @@
+pub mod Program
+pub mod Room
+pub mod Theorems
+pub mod Laws

@@ -1,0 +1,3 @@
+pub mod Figures
+pub mod Table
+pub mod Theorems

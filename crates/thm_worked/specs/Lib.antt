@@ -1,0 +1,3 @@
+pub mod March
+pub mod Theorems
+pub mod Laws
