@@ -1,1 +1,4 @@
+pub mod NodesMeet
+pub mod LayoutMeets
+pub mod Meets
 pub mod Promised

@@ -14,7 +14,7 @@ use Rattle.print_map.specs.Text.{refused_text, text_by, map_text}
 use Rattle.says.specs.MapText.{MapText}
 use Rattle.meets_report.specs.Theorems.Promised.{bytes_take}
 use Rattle.meets_map_text.specs.Theorems.Decides.{map-text-decides}
-use Rattle.meets_map_text.specs.Theorems.Meets.{map-text-meets}
+use Rattle.meets_map_text.proofs.Meets.{map-text-meets}
 
 -- the text is the definition's, and nothing else
 pub map-text-exactly : (file : List ℕ) → Bytes file → (fill : ℕ) (page : Opt) (text : List ℕ) → MapText file fill page text ↔ (text ≡ map_text file fill page)

@@ -44,14 +44,16 @@ fn is_missing(rt: &impl Env, i: usize) -> bool {
     }
 }
 
-// How many arguments there are, the program's name among them.
-pub fn arg_count(rt: &impl Env) -> usize {
-    for i in 0..usize::MAX {
+// How many arguments there are, the program's name among them. No more than `most` are counted.
+pub fn arg_count(rt: &impl Env, most: usize) -> usize
+    ensures { result ≤ most }
+{
+    for i in 0..most {
         if is_missing(rt, i) {
             return i;
         }
     }
-    usize::MAX
+    most
 }
 
 // Puts argument `i` at the front of a buffer, and answers its length: 0 where it is missing or longer than the buffer.

@@ -26,7 +26,7 @@ pub fn choice(n: u32) -> u8
 pub fn layout_asked(rt: &impl Env) -> Asked
     ensures { AskedBy result }
 {
-    let count = prog_args::arg_count(rt);
+    let count = prog_args::arg_count(rt, 4);
     if count > 3 {
         return Asked::Nothing;
     }

@@ -10,14 +10,15 @@
 // says which file does not give which address of it.
 #![tactic(auto)]
 
-ghost use Rattle.std.specs.Prelude.{take};
+ghost use Rattle.std.specs.Prelude.{◌≡◌, None, take};
+ghost use Rattle.std.specs.Str.{IsUtf8};
 ghost use Rattle.says.specs.Bench.{BenchSays};
 ghost use Rattle.says.specs.Lines.{Shows};
 
 use prelude::Opt;
 use std::fs::File;
 use std::io::Read;
-use std::rt::{Env, Files};
+use std::rt::Files;
 
 // The longest file that is read, and a byte more, so that nothing is cut to a sound file.
 const SOURCE: usize = 1_048_577;
@@ -179,12 +180,12 @@ fn start<F: Read>(
     )
 }
 
-// The file that an argument names, opened for reading; where it cannot be, a line on standard error says why.
-fn open<R: Env + Files + Eprint>(rt: &R, i: usize) -> Option<R::File> {
-    let mut word = [0u8; PATH];
-    let n = prog_args::arg(rt, i, &mut word);
-    let Ok(path) = std::str::from_utf8(&word[..n]) else {
-        let _ = eprintln!(rt; "the name of file {i} is not UTF-8");
+// The file of a name, opened for reading; where it cannot be, a line on standard error says why. A name that is not UTF-8 opens nothing.
+fn open<R: Files + Eprint>(rt: &R, name: &[u8]) -> Option<R::File>
+    ensures { (IsUtf8 name.now → ⊥) → result ≡ None }
+{
+    let Ok(path) = std::str::from_utf8(name) else {
+        let _ = eprintln!(rt; "the name of a file is not UTF-8");
         return None;
     };
     match File::open(rt, path) {
@@ -200,7 +201,7 @@ fn main(rt: HostRuntime) {
     let Opt::Some(load) = prog_args::number_at(&rt, 3) else {
         return;
     };
-    let all = prog_args::arg_count(&rt) == 4;
+    let all = prog_args::arg_count(&rt, 5) == 4;
     let mut at = 0;
     let mut count = 0;
     if !all {
@@ -213,10 +214,13 @@ fn main(rt: HostRuntime) {
         at = first;
         count = n;
     }
-    let Some(mut old_from) = open(&rt, 1) else {
+    let mut path = [0u8; PATH];
+    let n = prog_args::arg(&rt, 1, &mut path);
+    let Some(mut old_from) = open(&rt, &path[..n]) else {
         return;
     };
-    let Some(mut new_from) = open(&rt, 2) else {
+    let m = prog_args::arg(&rt, 2, &mut path);
+    let Some(mut new_from) = open(&rt, &path[..m]) else {
         return;
     };
     let mut old = [0u8; SOURCE];

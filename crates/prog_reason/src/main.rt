@@ -75,7 +75,7 @@ fn start(
 }
 
 fn main(rt: HostRuntime) {
-    let count = prog_args::arg_count(&rt);
+    let count = prog_args::arg_count(&rt, 4);
     if count > 3 {
         return;
     }

@@ -66,7 +66,7 @@ fn run(
 }
 
 fn main(rt: HostRuntime) {
-    let count = prog_args::arg_count(&rt);
+    let count = prog_args::arg_count(&rt, 7);
     if count > 6 {
         return;
     }

@@ -106,7 +106,7 @@ fn start(
 }
 
 fn main(rt: HostRuntime) {
-    let count = prog_args::arg_count(&rt);
+    let count = prog_args::arg_count(&rt, 5);
     if count > 4 {
         return;
     }

@@ -1,5 +1,5 @@
--- The lines of the nodes, of the node at fault and of the verdict: what the map shows of a layout, by the definitions, is what the sentences print of its
--- outcome. A node that is shown stands in a bank of the table, so that its address is told; a node at fault is one of the list's.
+-- The cells of a node, the line of the node at fault and that of the verdict: what the map shows of a layout, by the definitions, is what the sentences print of
+-- its outcome. A node that is shown stands in a bank of the table, so that its address is told; a node at fault is one of the list's.
 use Rattle.std.specs.Prelude.{◌≡◌, refl, Bool, true, false, List, [], ◌∷◌, map, eqb, ltb, ℤ, pos, ◌+ℤ◌, length}
 use Rattle.std.proofs.Common.{sym, ap, subst, ◌∙◌, arith, eqb-true}
 use Prim.Native.Nat.{ℕ, ◌-◌, ◌/◌, ◌≤◌, ◌<◌, min}
@@ -17,7 +17,6 @@ use Rattle.blocks.specs.Offsets.{no_offset}
 use Rattle.iter.specs.Address.{address_of, units_from}
 use Rattle.iter.specs.Theorems.ToldFacts.{address-when}
 use Rattle.iter.specs.declared.Lost.{Lost}
-use Rattle.nodes.specs.Lists.{Row}
 use Rattle.nodes.specs.Theorems.Sound.{accepted-lists}
 use Rattle.resolver.specs.Layout.{Checked}
 use Rattle.resolver.specs.Once.{Program, bank_record}
@@ -26,8 +25,7 @@ use Rattle.resolver.specs.declared.Settled.{Settled}
 use Rattle.resolver.specs.declared.Settled.TheVariants.{At, Refused as Unsettled}
 use Rattle.build_plan.specs.Placing.{Placed, holds, stops, placed_all, walked_all}
 use Rattle.output.specs.Output.{Input, closed_of, visits_of, passes_of, settled_of}
-use Rattle.build_map.specs.Map.{traced_by, node_of, nodes_met, fault_met, settled_reach, reach_of, map_of, bank_shown, position_shown, output_shown, size_shown}
-use Rattle.build_map.specs.Laws.Entries.{shown-at}
+use Rattle.build_map.specs.Map.{traced_by, node_of, nodes_met, fault_met, settled_reach, reach_of, map_of, bank_shown, position_shown}
 use Rattle.build_map.specs.Theorems.Reached.{ran-checked, none-run, shown-sees}
 use Rattle.build_map.specs.declared.Fault.{Fault}
 use Rattle.build_map.specs.declared.Fault.TheVariants.{None, At as AtNode}
@@ -37,26 +35,25 @@ use Rattle.print_text.specs.Ascii.{ascii}
 use Rattle.print_text.specs.Lines.{place_numbers, line}
 use Rattle.print_map.specs.Cells as made
 use Rattle.print_map.specs.Cells.{line_of, signed}
-use Rattle.print_map.specs.Text.{address_cell, word_cell, node_line, fault_text, place_cells, refused_text, verdict_text}
+use Rattle.print_map.specs.Text.{address_cell, word_cell, fault_text, place_cells, refused_text, verdict_text}
 use Rattle.says.specs.Build.{Given, nodes, kind, unit, start}
 use Rattle.says.specs.Lines.{Line}
-use Rattle.says.specs.Map.{Lent, Outcome, no_node}
+use Rattle.says.specs.Map.{Lent, no_node}
 use Rattle.says.specs.MapText as says
-use Rattle.says.specs.MapText.{Cell, Optional, Word, Whole, NodeLine, FaultLine, Verdict as Ends}
+use Rattle.says.specs.MapText.{Cell, Optional, Word, Whole, FaultLine, Verdict as Ends}
 use Rattle.meets_sentences.specs.Typed.{Typed}
 use Rattle.meets_build.specs.Laws.Contract.{input_of}
 use Rattle.meets_build.specs.Laws.Shown.{Shown, Tells, listed, walked}
 use Rattle.meets_build.specs.Laws.Table.{table, shown}
 use Rattle.meets_build.specs.Laws.Walk.{Goes, in_table}
 use Rattle.meets_map.specs.Places.{Places}
-use Rattle.meets_map.specs.Theorems.Promised.{outcome_of}
 use Rattle.meets_report.specs.Laws.Lines.{line-meets}
 use Rattle.meets_report.specs.Laws.Shown.{numbers-meet}
-use Rattle.meets_map_text.specs.Laws.Records.{as_made, record-meets, whole_meets, numbers-line, numbers-meet-line}
+use Rattle.meets_map_text.specs.Laws.Records.{as_made, whole_meets, numbers-line, numbers-meet-line}
 
 -- ---- a place in the output
 
-word-column : (w : ℕ) → (c : Cell) × Optional (Word w) c × (as_made c ≡ word_cell w)
+pub word-column : (w : ℕ) → (c : Cell) × Optional (Word w) c × (as_made c ≡ word_cell w)
 word-column w =
     either (eqb w no_offset)
     (λ t. (says.none, says.absent (λ n h. h.1 (h.0 ∙ eqb-true w no_offset t)), rw t))
@@ -118,17 +115,8 @@ module _ (g : Given) (typed : Typed g) (old : Lent) (places : Places old) where
   abbrev b : Input
   b = input_of g typed
 
-  abbrev y : Outcome
-  y = outcome_of g typed old places
-
-  abbrev count : ℕ
-  count = (map_of b).nodes
-
   abbrev p : Program
   p = walked g (table g)
-
-  abbrev row : Row
-  row = row_of_pass (listed g) (map_of b).passes
 
   -- where a node is shown or at fault, a pass has run
   nodes-ran : (i : ℕ) → i < (reach_of b).nodes → passes_of b ≡ 0 → ⊥
@@ -165,27 +153,18 @@ module _ (g : Given) (typed : Typed g) (old : Lent) (places : Places old) where
     tells : Tells g k def
     tells = is.tells k (in_table g (table g) is ck now i (let few = (shown-sees b).few in omega (arith, h, few)) before)
 
-    address-column : (c : Cell) × Whole (start g k +ℤ pos (q / unit g k)) c × (as_made c ≡ address_cell (address_of def q i))
+    pub address-column : (c : Cell) × Whole (start g k +ℤ pos (q / unit g k)) c × (as_made c ≡ address_cell (address_of def q i))
     address-column =
         let w = whole_meets (start g k +ℤ pos (q / unit g k)) in
         let there : units_from def q ≡ start g k +ℤ pos (q / unit g k) =
         ap (λ (z : ℤ). z +ℤ pos (q / def.unit)) tells.of-start ∙ ap (λ (u : ℕ). start g k +ℤ pos (q / u)) tells.of-unit in
         (w.0, w.1, w.2 ∙ sym (ap address_cell (address-when def q i tells.told) ∙ ap signed there))
 
-  -- where the columns of a node's line are what its record shows, the line says it
-  pub node-meets : ((i k q e e' : ℕ) (a o : Cell) (a' o' : made.Cell) → as_made a ≡ a' → as_made o ≡ o' → e' ≡ e
+  -- where the cells of a node's columns are the same, its records are
+  pub columns-same : (i k q : ℕ) {e e' : ℕ} (a o : Cell) {a' o' : made.Cell} → as_made a ≡ a' → as_made o ≡ o' → e' ≡ e
       → map as_made (says.number i ∷ says.number (kind g i) ∷ says.number k ∷ says.number q ∷ a ∷ o ∷ says.number e ∷ [])
-      ≡ made.number i ∷ made.number (kind g i) ∷ made.number k ∷ made.number q ∷ a' ∷ o' ∷ made.number e' ∷ []) → (i : ℕ) → i < count
-      → NodeLine g y.lent i (node_line (table g) i (kind g i) (bank_shown p row i) (position_shown p row i) (output_shown p row i) (size_shown p row i))
-  unfolding map_of
-  node-meets columns i h =
-      let a = address-column i h in
-      let o = word-column (output_shown p row i) in
-      let out = shown-at count (output_shown p row) old.outputs i h in
-      says.node (sym (shown-at count (bank_shown p row) old.banks i h)) (sym (shown-at count (position_shown p row) old.positions i h)) a.1
-      (subst (λ (w : ℕ). Optional (Word w) o.0) (sym out) o.1)
-      (record-meets (ascii "node") _ _
-      (columns i (bank_shown p row i) (position_shown p row i) _ _ a.0 o.0 _ _ a.2 o.2 (sym (shown-at count (size_shown p row) old.sizes i h))))
+      ≡ made.number i ∷ made.number (kind g i) ∷ made.number k ∷ made.number q ∷ a' ∷ o' ∷ made.number e' ∷ []
+  columns-same i k q a o ea eo ee = rw (ea, eo, ee)
 
   -- ---- the node at fault
 
