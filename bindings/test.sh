@@ -31,8 +31,7 @@ tested() {
 }
 tested C "$out/test" examples/worked.form
 tested "C, the store" "$out/store"
-# (how much stack the C takes is its compiler's matter)
-! is_listed "$crate_archive" || tested "C, stack" "$out/stack"
+tested "C, stack" "$out/stack"
 tested "C, overlays" "$out/overlays"
 tested "C, read-back" "$out/readback"
 tested "C, reasons" "$out/reasons"

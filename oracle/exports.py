@@ -76,19 +76,17 @@ def exports(crate="denkumari"):
     found = []
     for file in sorted((ROOT / "crates" / crate / "src").glob("*.rt")):
         text = re.sub(r"//[^\n]*", "", file.read_text(encoding="utf-8"))
-        for m in re.finditer(r'pub (?:extern "C" )?fn (dk_\w+)\(([^{]*?)\) -> (\w+)\s+ensures(?: \w+)? \{(.*?)\}\s*\n\{\n(.*?)\n\}', text, re.S):
+        opening = r'#\[unsafe\(no_mangle\)\]\s+pub extern "C" fn' if crate == THIN else "pub fn"
+        for m in re.finditer(opening + r' (dk_\w+)\(([^{]*?)\) -> (\w+)\s+ensures(?: \w+)? \{(.*?)\}\s*\n\{\n(.*?)\n\}', text, re.S):
             found.append(Export(f"crates/{crate}/src/{file.name}", m.group(1), m.group(2), m.group(3), " ".join(m.group(4).split())))
             found[-1].body = " ".join(m.group(5).split())
-        if len(re.findall(r"\bpub[^\n]* fn dk_", text)) != len([e for e in found if e.path.endswith("/" + file.name)]):
+        if len(re.findall(r"\bfn dk_", text)) != len([e for e in found if e.path.endswith("/" + file.name)]):
             raise manners.Stop(f"crates/{crate}/src/{file.name}: an exported function has another form than this test reads")
     return found
 
 
 def thin_wrong(found):
     """What is wrong with the crate whose exports C calls: each function of the library's is there once more."""
-    if not manners.is_listed(THIN):
-        print(f"left out: the exports of {THIN}: it is not in crates.txt (PORTING-LEFT.md)")
-        return []
     thin, wrong = {e.name: e for e in exports(THIN)}, []
     for e in found:
         own = thin.pop(e.name, None)
@@ -350,9 +348,6 @@ def unseen_in_header(found, told, source):
 
 def main():
     manners.parser(__doc__).parse_args()
-    if not manners.is_listed("denkumari"):
-        print("left out: the exports: the crate denkumari is not in crates.txt (PORTING-LEFT.md)")
-        return
     found, text = exports(), header()
     told, source = prototypes(text), structs_of_source()
     wrong = [w for e in found for w in wrong_with(e) + told_wrong(e, told)] + unneeded(found) + structs_wrong(source, structs_of_header(text))

@@ -132,26 +132,6 @@ def crates():
     return dict(line.removeprefix("crate_").split("=", 1) for line in lines if line.startswith("crate_"))
 
 
-def is_listed(crate):
-    """Whether crates.txt has the crate. One that it does not have is still to come (PORTING-LEFT.md)."""
-    lines = (ROOT / "crates.txt").read_text().splitlines()
-    return any(line.split("#")[0].partition(":")[0].split()[:1] == [crate] for line in lines)
-
-
-def is_here(role):
-    """Whether a program is in crates.txt; says so where it is not."""
-    name = crates()[role]
-    if not is_listed(name):
-        print(f"left out: the program {name}: it is not in crates.txt (PORTING-LEFT.md)")
-    return is_listed(name)
-
-
-def archive():
-    """The archive that the C programs are linked with: the proved one, or the same calls as C where that one is not built (tools/launch.sh)."""
-    proved = ROOT / "target" / "staticlib" / "libdenkumari.a"
-    return proved if proved.is_file() else ROOT / "build" / "portable" / "libdenkumari.a"
-
-
 def command(role):
     """The words that start a program of the repository, which is built first where it must be (tools/run)."""
     done = subprocess.run([ROOT / "tools" / "run", "--command", crates()[role]], stdout=subprocess.PIPE, check=False)

@@ -344,8 +344,7 @@ def main():
         parser.error(f"there is no program {name}: {', '.join(names)}")
     with manners.room() as room:
         wrong = held_unresolved(asked) if asked.native and not asked.names else 0
-        here = [name for name in asked.names or names if (name != "reason" if asked.native else manners.is_here(name))]
-        wrong += sum(held(name, asked, Path(room)) for name in here)
+        wrong += sum(held(name, asked, Path(room)) for name in asked.names or names if not (asked.native and name == "reason"))
     print("no difference" if not wrong else f"{wrong} differ")
     sys.exit(wrong != 0)
 

@@ -47,9 +47,6 @@ def worked():
 
 def worked_cases():
     """Each of them, and what the theorem says that it becomes."""
-    if not WORKED.exists():
-        print("left out: the worked file of meets_convert's theorem: the crate is not here (PORTING-LEFT.md)")
-        return ()
     one, two = worked()
     return ("--to 2", one.hex(), f"ok {two.hex()}"), ("--to 1", two.hex(), f"ok {one.hex()}")
 
@@ -134,7 +131,7 @@ def built_records(start, _, cases):
     return asked_of(start, given="".join(case + "\n" for case in cases).encode()).splitlines()
 
 
-BUILT = {"convert.py": (lambda: of_c("batch"), built_convert), "map.py": (lambda: manners.is_here("mapper") and manners.command("mapper"), built_map),
+BUILT = {"convert.py": (lambda: of_c("batch"), built_convert), "map.py": (lambda: manners.command("mapper"), built_map),
          "bench.py": (lambda: of_c("overlays"), built_bench), "records.py": (lambda: of_c("records"), built_records)}
 MODELS = {"convert.py": (convert_cases, convert_answer), "map.py": (map_cases, map_answer),
           "bench.py": (bench_cases, bench_answer), "records.py": (records_cases, records_answer)}

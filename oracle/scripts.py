@@ -99,8 +99,6 @@ tools/lint
 oracle/tools.sh
 oracle/programs.py --cases 5000 rehex
 """
-# the program that a call wants, which may be still to come (PORTING-LEFT.md)
-WANTED = {"tools/run --command": "layout", "tools/replay": "layout", "oracle/programs.py --cases": "rehex"}
 EVERY_SIGNAL = ("tools/map", "oracle/programs.py")
 
 
@@ -109,8 +107,7 @@ def calls(text, chosen, file=""):
     for line in text.strip().splitlines():
         named = {"FILE": file, "LAYOUT": manners.crates()["layout"]}
         words = [named.get(word, word).replace("\u00a0", " ") for word in line.split(" ")]
-        wanted = WANTED.get(" ".join(line.split(" ")[:2])) or WANTED.get(words[0])
-        if words[0] in chosen and (not wanted or manners.is_listed(manners.crates()[wanted])):
+        if words[0] in chosen:
             yield words
 
 
@@ -295,8 +292,7 @@ def main():
     for name in set(asked.names) - there:
         parser.error(f"there is no script {name}")
     for role in ("layout", "mapper", "station", "rehex", "converter"):
-        if manners.is_here(role):
-            manners.command(role)
+        manners.command(role)
     with manners.room() as room, ThreadPoolExecutor(2) as pool:
         found = [wrong for each in pool.map(lambda trial: list(trial()), trials(room, asked.names)) for wrong in each]
     print("\n".join(found) or f"{len(asked.names or there)} scripts, all as they should be")

@@ -154,7 +154,7 @@ def main():
     p.add_argument("--inputs", type=manners.some, default=200, metavar="N")
     p.add_argument("--seed", default="1", metavar="S")
     p.add_argument("--call", choices=[n for n in CALLS if n not in NOT_RUN], metavar="NAME")
-    p.add_argument("--archive", default=str(manners.archive()), metavar="ARCHIVE")
+    p.add_argument("--archive", default=str(ROOT / "target" / "staticlib" / "libdenkumari.a"), metavar="ARCHIVE")
     p.add_argument("--recorded", type=manners.count, default=150, metavar="N")
     p.add_argument("--try", action="store_true", dest="only")
     asked = p.parse_args()

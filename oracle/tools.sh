@@ -122,34 +122,27 @@ is 2 tools/bench "$room/banks.hex"
 is 2 tools/bench - -
 # one of the two from standard input, and the address in hex as well
 released=crates/prog_overlay/data/released.hex overlay=crates/prog_overlay/data/overlay.hex
-runs_told() {
-    tools/bench "$released" "$overlay" >"$room/runs" && tools/bench "$released" - <"$overlay" >"$room/out" || wrong=1
-    same "$room/runs" "$room/out" "tools/bench - prints other runs than for the file"
-    has "$room/runs" 'run 264 0x00000108 2 0809 aabb' 'tools/bench released.hex overlay.hex'
-    has "$room/runs" 'alone 288 0x00000120' 'tools/bench released.hex overlay.hex'
-    # a range that is refused names the file that does not give it, and the address
-    is 0 tools/bench "$released" "$overlay" --range 0x108 8
-    is 0 tools/bench "$released" "$overlay" --range 0x110 16
-    for asked in '0x118 0x10 released.hex.*0x00000120' '0x120 2 released.hex.*0x00000120' '0x100 0 empty' '0x10e 4 overlay.hex.*0x00000110'; do
-        # shellcheck disable=SC2086
-        set -- $asked
-        is 1 tools/bench "$released" "$overlay" --range "$1" "$2"
-        grep -q "$3" "$room/err" || {
-            echo "tools/bench --range $1 $2 says: $(cat "$room/err")"
-            wrong=1
-        }
-    done
-    # a file of its own: whole, or not at all
-    is 0 tools/bench "$released" "$overlay" -o "$room/own"
-    same "$room/runs" "$room/own" "tools/bench -o writes another file than it prints"
-    is 1 tools/bench "$released" README.md -o "$room/own"
-    same "$room/runs" "$room/own" "tools/bench -o changed a file where a file was refused"
-}
-if [ -f "$released" ]; then
-    runs_told
-else
-    echo "left out: the runs of released.hex and overlay.hex: prog_overlay is not here (PORTING-LEFT.md)"
-fi
+tools/bench "$released" "$overlay" >"$room/runs" && tools/bench "$released" - <"$overlay" >"$room/out" || wrong=1
+same "$room/runs" "$room/out" "tools/bench - prints other runs than for the file"
+has "$room/runs" 'run 264 0x00000108 2 0809 aabb' 'tools/bench released.hex overlay.hex'
+has "$room/runs" 'alone 288 0x00000120' 'tools/bench released.hex overlay.hex'
+# a range that is refused names the file that does not give it, and the address
+is 0 tools/bench "$released" "$overlay" --range 0x108 8
+is 0 tools/bench "$released" "$overlay" --range 0x110 16
+for asked in '0x118 0x10 released.hex.*0x00000120' '0x120 2 released.hex.*0x00000120' '0x100 0 empty' '0x10e 4 overlay.hex.*0x00000110'; do
+    # shellcheck disable=SC2086
+    set -- $asked
+    is 1 tools/bench "$released" "$overlay" --range "$1" "$2"
+    grep -q "$3" "$room/err" || {
+        echo "tools/bench --range $1 $2 says: $(cat "$room/err")"
+        wrong=1
+    }
+done
+# a file of its own: whole, or not at all
+is 0 tools/bench "$released" "$overlay" -o "$room/own"
+same "$room/runs" "$room/own" "tools/bench -o writes another file than it prints"
+is 1 tools/bench "$released" README.md -o "$room/own"
+same "$room/runs" "$room/own" "tools/bench -o changed a file where a file was refused"
 for tool in layout map; do
     "tools/$tool" examples/banks.form >"$room/printed" || wrong=1
     is 0 "tools/$tool" examples/banks.form -o "$room/own"
@@ -173,21 +166,14 @@ worked() { # NAME
     # shellcheck disable=SC2059
     printf "$(cat "$room/octal")"
 }
-worked_file() {
-    worked in_form1 >"$room/worked1" && worked in_form2 >"$room/worked2" || wrong=1
-    [ "$(wc -c <"$room/worked1") $(wc -c <"$room/worked2")" = '75 120' ] || {
-        echo "the worked file has not 75 bytes in form 1 and 120 in form 2"
-        wrong=1
-    }
-    tools/convert "$room/worked1" --to 2 >"$room/out" && tools/convert "$room/worked2" --to 1 >"$room/back" || wrong=1
-    same "$room/worked2" "$room/out" "the worked file is not in form 2 what its theorem says"
-    same "$room/worked1" "$room/back" "the worked file is not in form 1 what its theorem says"
+worked in_form1 >"$room/worked1" && worked in_form2 >"$room/worked2" || wrong=1
+[ "$(wc -c <"$room/worked1") $(wc -c <"$room/worked2")" = '75 120' ] || {
+    echo "the worked file has not 75 bytes in form 1 and 120 in form 2"
+    wrong=1
 }
-if [ -f crates/meets_convert/specs/Theorems/Example.antt ]; then
-    worked_file
-else
-    echo "left out: the worked file of meets_convert's theorems: the crate is not here (PORTING-LEFT.md)"
-fi
+tools/convert "$room/worked1" --to 2 >"$room/out" && tools/convert "$room/worked2" --to 1 >"$room/back" || wrong=1
+same "$room/worked2" "$room/out" "the worked file is not in form 2 what its theorem says"
+same "$room/worked1" "$room/back" "the worked file is not in form 1 what its theorem says"
 is 1 tools/convert examples/banks.form --to 1
 is 1 tools/convert "$room/two" --to 2
 is 2 tools/convert "$room/two" --to 3
@@ -555,10 +541,10 @@ is 0 first --build prog
     echo "a program is not built again where a crate below it changed"
     wrong=1
 }
-# a program that is still to come
+# a folder that crates.txt does not list is no crate
 mkdir -p "$room/first/crates/late/src" && : >"$room/first/crates/late/src/main.rt" && sed -i '/^late/d' "$room/first/crates.txt" || wrong=1
 is 2 first --build late
-has "$room/err" 'tools/run: the program late is not in crates.txt: .*' 'a program that is still to come'
+has "$room/err" 'tools/run: there is no crate late' 'a program that crates.txt does not list'
 # what no program says is no refusal
 for said in hello 'refused 12' 'refused 20 0' 'refused 12 a b'; do
     is 2 tools/words examples/clamp-mark-after.form "$said"

@@ -34,22 +34,6 @@ def refused_at():
     return {edit: (file, name) for edit, file, name in lines}
 
 
-def refused_by():
-    """The kit whose refusals are on record, from the first line."""
-    head = read(REFUSED).split('\n', 1)[0]
-    return head[2:] if head.startswith('# ') else ''
-
-
-LEFT = 'PORTING-LEFT.md'
-
-
-def is_left(crate):
-    """Whether a crate is not here and the page of those that are still to come names it."""
-    if os.path.isdir(os.path.join(ROOT, 'crates', crate)) or not os.path.isfile(os.path.join(ROOT, LEFT)):
-        return False
-    return bool(re.search(rf'(?<![\w/]){re.escape(crate)}(?!\w)', read(LEFT)))
-
-
 def bare(line):
     """The line without its comment."""
     m = re.search(r'(^|\s)--(\s|$)', line)

@@ -9,7 +9,7 @@ import os
 import re
 import sys
 import textwrap
-from antt import ROOT, Declared, functions_of, is_left, line_of, mentioned, named, names_of, places, read, run, struct, tokens, uses_of
+from antt import ROOT, Declared, functions_of, line_of, mentioned, named, names_of, places, read, run, struct, tokens, uses_of
 
 TABLE = 'docs/BELIEVED.md'
 EXPORTS = 'denkumari'
@@ -210,8 +210,6 @@ def headlines():
     for file in ROWS:
         for text in re.findall(r'^  theorem: (.*(?:\n    .*)*)', read(file), re.M):
             m = re.search(r'`([a-z_0-9]+/[A-Z]\w*\.[^` ]+)`', text)
-            if m and is_left(m.group(1).split('/')[0]):
-                continue
             if m and not text.startswith('none') and not re.search(r'[-_]meets?([-_]by)?$', m.group(1)) and not declared(m.group(1)).is_believed():
                 found.append(m.group(1))
     return sorted(set(found))
@@ -226,8 +224,6 @@ def table():
            'What a call ensures is its sentence, over its own parameters: its `ensures` and the sentence are believed. Sentences stand in crates/says and use '
            'the types of answers, `bit_at` and the pieces of a text, and no other definition of the library.', '',
            '| Call | Lines | of them its `ensures` | Declarations | Files | Sentence |', '|---|---|---|---|---|---|']
-    if is_left(EXPORTS):
-        out += ['', f'The crate `{EXPORTS}`, whose functions these are, is still to come (PORTING-LEFT.md).']
     for name in exports():
         lines, count, files, _ = figures(name)
         own = len(clause(contract(EXPORTS, name)))

@@ -69,40 +69,13 @@ build_program() {
         return 0
     fi
     [ -f "$home/crates/$1/src/main.rt" ] || say "there is no program $1"
-    is_listed "$1" || say "the program $1 is not in crates.txt: PORTING-LEFT.md lists what is still to come"
     build "$1" "target/bin/$1" run "$1" "the program $1"
 }
-# The archive, under the name that callers link it by: the proved one, or, where its crate is still to come, the same calls as C (portable/), which any C
-# compiler compiles.
+# The archive, under the name that callers link it by.
 archive=target/staticlib/lib$crate_library.a
 build_archive() {
-    if is_listed "$crate_archive"; then
-        build "$crate_archive" "$archive" lib "lib$crate_archive.a" "the archive"
-        return
-    fi
-    archive=build/portable/lib$crate_library.a
-    # an archive of other sources is nobody's
-    rm -f "$home/target/staticlib/lib$crate_library.a"
-    compile_archive
-    echo "left out: the proved archive: $crate_archive is not in crates.txt (PORTING-LEFT.md); portable/denkumari.c stands in its place"
+    build "$crate_archive" "$archive" lib "lib$crate_archive.a" "the archive"
 }
-
-compile_archive() (
-    cd "$home" || exit 2
-    mkdir -p build/portable target/sum || say "build/ cannot be written"
-    alone
-    # nobody asks for files' times elsewhere, but here one file is compiled, by a compiler that does not change
-    [ -z "$(find "$archive" -newer portable/denkumari.c 2>/dev/null)" ] || exit 0
-    compiler=
-    for one in "${CC:-cc}" gcc clang; do
-        [ -n "$compiler" ] || ! command -v "$one" >/dev/null 2>&1 || compiler=$one
-    done
-    [ -n "$compiler" ] || say "there is no C compiler: cc, gcc and clang are not on the PATH"
-    rm -f "$archive.part"
-    { "$compiler" -std=c99 -O3 -fPIC -Iinclude -c portable/denkumari.c -o build/portable/denkumari.o && ar crs "$archive.part" build/portable/denkumari.o; } ||
-        say "portable/denkumari.c was not compiled"
-    mv -f "$archive.part" "$archive"
-)
 
 # What `rt ci` has just built, kept for who comes next: its programs, and the archive, built over the libraries that it proved. For tools/test alone, which
 # calls it right behind `rt ci`: nothing here looks whether what lies in out/ is of the files that are here. What is not there is built when it is asked for.
@@ -113,9 +86,8 @@ take_from_ci() (
     for one in crates/*/src/main.rt; do
         [ -f "$one" ] || continue
         one=${one#crates/} one=${one%%/*}
-        ! is_listed "$one" || [ ! -f "crates/$one/out/$one" ] || kept "$one" "crates/$one/out/$one" "target/bin/$one"
+        [ ! -f "crates/$one/out/$one" ] || kept "$one" "crates/$one/out/$one" "target/bin/$one"
     done
-    is_listed "$crate_archive" || exit 0
     kit=$(dirname "$(rt doc)")
     set -- --crate-name "$crate_archive" src/lib.rt --extern "std=$kit/rlibs/std.rlib" -L "dependency=$kit/rlibs" --links "$crate_archive="
     deps=$(sed 's/#.*//' crates.txt | sed -n "s/^${crate_archive}[^:]*://p")

@@ -29,7 +29,7 @@ import re
 import sys
 import textwrap
 import believed
-from antt import REFUSED, ROOT, edits, functions_of, is_left, line_of, names_of, places, read, refused_at, refused_by, run
+from antt import REFUSED, ROOT, edits, functions_of, line_of, names_of, places, read, refused_at, run
 
 PAGE = 'docs/STATEMENTS.md'
 ROWS = 'docs/statements'
@@ -61,9 +61,7 @@ def fault(text):
 
 
 def find(crate, rest, where):
-    """The declaration of crate/File.name, or None and a fault; none of a crate that is still to come."""
-    if is_left(crate):
-        return None
+    """The declaration of crate/File.name, or None and a fault."""
     file, _, name = rest.partition('.')
     for path in places(crate, file):
         if name in names_of(path):
@@ -108,7 +106,7 @@ def linked(text, where, up):
         if kind == '::' and rest in functions_of(crate):
             path = functions_of(crate)[rest][0]
             return f'[{m.group(0)}]({up}{path}#L{line_of(path, rest)})'
-        if kind == '!' and not is_left(crate):
+        if kind == '!':
             return f'[{m.group(0)}]({up}crates/{crate}/must-fail/{rest}.edit)'
         return m.group(0)
     return CITED.sub(link, text)
@@ -119,14 +117,12 @@ def with_digits(text, where, up):
     def one(m):
         crate, kind, rest = m.groups()
         named = linked(m.group(0), where, up)
-        if is_left(crate):
-            return f'{named} (to come)'
         return f'{named} {digest(crate, rest, where)}' if kind == '/' and re.match(r'[A-Z][A-Za-z0-9]*\.', rest) else named
     return CITED.sub(one, text)
 
 
 def is_there(kind, crate, rest, where):
-    if kind == '/' and not rest[:1].isupper() or is_left(crate):
+    if kind == '/' and not rest[:1].isupper():
         return
     if not os.path.isdir(os.path.join(ROOT, 'crates', crate)):
         fault(f'{where}: there is no crate {crate}: {crate}{kind}{rest}')
@@ -311,8 +307,6 @@ def write_row(b, up):
 def write_function(b, up):
     """A line of the table of functions."""
     crate, _, name = b.name.partition('::')
-    if is_left(crate):
-        return [f'| `{b.name}` | {cell(b["not"])} | to come | {cell(b["one"])} |']
     path, _, head = functions_of(crate).get(name, ('', False, []))
     if not path:
         return [f'| `{b.name}` | there is no such function | | |']
@@ -370,9 +364,6 @@ def turned_away(b, up):
     """Where the check refuses an edit: a link to the file, and the declaration in it."""
     file, name = refused_at().get(b.name, ('', ''))
     path = f'crates/{b.name.split("!")[0]}/{file}'
-    if b['changes'] and file and (is_left(b.name.split('!')[0]) or refused_by() != read('KIT').strip() and not os.path.exists(os.path.join(ROOT, path))):
-        # a proof of then, which is not here
-        return f'{file}, `{name}`'
     if not b['changes'] or not file or not os.path.exists(os.path.join(ROOT, path)):
         fault(f'{b.where}: {b.name} has not both what it changes and, in {REFUSED}, a file that is there (tools/refused --write)')
     return f'[{file}]({up}{path})' + (f', `{name}`' if name else '')
@@ -417,11 +408,9 @@ def all_named(seen):
         if c not in changed:
             fault(f'no row says what stops a change of definition and code together in {c}')
     for c in changed:
-        if c not in crates and not is_left(c):
+        if c not in crates:
             fault(f'together {c}: there is no such crate')
     for edit in sorted(refused_at().keys() - set(edits())):
-        if is_left(edit.split('!')[0]):
-            continue
         fault(f'{REFUSED}: there is no edit {edit}')
     named = {n for k, n in seen.blocks if k == 'row'}
     for pattern in ('antt', 'edit'):
@@ -471,9 +460,6 @@ def filled(text, where):
     there are."""
     def quoted(m):
         names = m.group(1).split()
-        if any(is_left(re.split('/|::', name)[0]) for name in names):
-            # as it stands
-            return m.group(0)
         for name in names:
             if '/' not in name and '::' not in name:
                 fault(f'{where}: no name to be quoted: {name}')
@@ -488,8 +474,6 @@ def filled(text, where):
             n = len(glob.glob(os.path.join(ROOT, 'crates/*/must-fail/*.edit')))
         elif m.group(1) == 'exports':
             n = len(EXPORTED.findall(read('include/denkumari.h')))
-        elif is_left(believed.EXPORTS) or is_left('says'):
-            return m.group(0)
         else:
             n = believed.figures(m.group(2))[0 if m.group(1) == 'lines' else 2]
         return f'<!-- {m.group(1)}{" " * bool(m.group(2))}{m.group(2)} -->{n:,}<!-- / -->'
@@ -526,15 +510,13 @@ def check_path(path, where):
     path = path.rstrip('.')
     if re.search(r'(^|/)[A-Z]{2,}(/|\.edit|$)', path) and not os.path.exists(os.path.join(ROOT, path)):
         return  # a placeholder: crates/NAME/must-fail/LABEL.edit
-    if path.startswith('crates/') and is_left(path.split('/')[1]):
-        return
     if not glob.glob(os.path.join(ROOT, path)) and not glob.glob(os.path.join(ROOT, path + '.antt')):
         fault(f'{where}: there is no {path}')
 
 
 def check_laws(line, where):
     m = LAWS.match(line)
-    for name in re.findall(r'`([^`]+)`', m.group(3)) if m and not is_left(m.group(1)) else []:
+    for name in re.findall(r'`([^`]+)`', m.group(3)) if m else []:
         if not any(name in names_of(path) for path in places(m.group(1), m.group(2))):
             fault(f'{where}: {m.group(1)}/{m.group(2)} has no {name}')
 

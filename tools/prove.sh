@@ -3,7 +3,7 @@
 # repository's folder.
 [ "${0##*/}" != prove.sh ] || . "$(dirname "$(readlink -f -- "$0")")/start.sh"
 
-# is_listed CRATE: whether crates.txt lists it. One that it does not is still to come: PORTING-LEFT.md, where that page is there, names it.
+# is_listed CRATE: whether crates.txt lists it; the kit's own libraries are not there.
 is_listed() {
     grep -qE "^$1( [^:]*)?:" "$home/crates.txt"
 }

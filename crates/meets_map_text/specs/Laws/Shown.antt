@@ -1,5 +1,5 @@
--- The cells of a node, the line of the node at fault and that of the verdict: what the map shows of a layout, by the definitions, is what the sentences print of
--- its outcome. A node that is shown stands in a bank of the table, so that its address is told; a node at fault is one of the list's.
+-- The cells of a node, the line of the node at fault and that of the verdict: what the map shows of a layout, by the definitions, is what the sentences
+-- print of its outcome. A node that is shown stands in a bank of the table, so that its address is told; a node at fault is one of the list's.
 use Rattle.std.specs.Prelude.{◌≡◌, refl, Bool, true, false, List, [], ◌∷◌, map, eqb, ltb, ℤ, pos, ◌+ℤ◌, length}
 use Rattle.std.proofs.Common.{sym, ap, subst, ◌∙◌, arith, eqb-true}
 use Prim.Native.Nat.{ℕ, ◌-◌, ◌/◌, ◌≤◌, ◌<◌, min}
