@@ -1,11 +1,9 @@
 -- Refusals 1, 2 and 3 of a table of banks, in document 01's order: "1, 2 by ascending bank, 3".
-use Rattle.std.specs.Prelude.{ℕ, ◌+◌, Bool, false, ◌&&◌, List, [], ◌∷◌, ltb, leb, pos, length, get_or, take, drop}
+use Rattle.std.specs.Prelude.{ℕ, ◌+◌, Bool, false, ◌&&◌, List, [], ◌∷◌, ltb, leb, pos, length, get_or, take, drop, None, Err}
 use Rattle.prelude.specs.Limits.{max_banks}
 use Rattle.prelude.specs.Pick.{pick}
-use Rattle.prelude.specs.declared.Opt.TheVariants.{None}
 use Rattle.prelude.specs.declared.Refusal.TheVariants.{BankCount, BankNumber, BanksOverlap}
-use Rattle.prelude.specs.declared.Verdict.{Verdict}
-use Rattle.prelude.specs.declared.Verdict.TheVariants.{Accepted, Refused}
+use Rattle.prelude.specs.Verdict.{Verdict, Accepted}
 use Rattle.bankdef.specs.declared.Bankdef.{Bankdef}
 use Rattle.bankdef.specs.declared.Bankdefs.{Bankdefs}
 use Rattle.bankdef.specs.Search.{first_where, some_where}
@@ -37,13 +35,13 @@ unfoldable pub first_pair : ℕ → List Bankdef → Verdict
 first_pair i [] = Accepted
 first_pair i (a ∷ l) =
     pick (some_where (pair_overlaps a) l)
-    (Refused (BanksOverlap i (i + 1 + first_where (pair_overlaps a) l)))
+    (Err (BanksOverlap i (i + 1 + first_where (pair_overlaps a) l)))
     (first_pair (i + 1) l)
 
 -- "2 by ascending bank, 3": the first bank at fault; without one, the first pair, "bank 0 .. never" in it.
 abbrev pub check_banks : List Bankdef → Verdict
-check_banks l = pick (some_fault l) (Refused (BankNumber (first_fault l))) (first_pair 1 (drop 1 l))
+check_banks l = pick (some_fault l) (Err (BankNumber (first_fault l))) (first_pair 1 (drop 1 l))
 
 -- "1: the bank count is outside 1 to 16"
 abbrev pub check_of : Bankdefs → Verdict
-check_of t = pick (count_sound t.len) (check_banks (banks_of t)) (Refused BankCount)
+check_of t = pick (count_sound t.len) (check_banks (banks_of t)) (Err BankCount)

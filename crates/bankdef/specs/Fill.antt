@@ -1,8 +1,6 @@
 -- Document 01, "Banks": the length that fill gives the image. Ticket 8: full fill beside it.
-use Rattle.std.specs.Prelude.{ℕ, ◌+◌, ◌-◌, max, Bool, true, false, List, [], ◌∷◌, ltb, eqb}
+use Rattle.std.specs.Prelude.{ℕ, ◌+◌, ◌-◌, max, Bool, true, false, List, [], ◌∷◌, ltb, eqb, Option, Some, None}
 use Rattle.prelude.specs.Pick.{pick}
-use Rattle.prelude.specs.declared.Opt.{Opt}
-use Rattle.prelude.specs.declared.Opt.TheVariants.{None, Some}
 use Rattle.bankdef.specs.declared.Bankdef.{Bankdef}
 
 -- "if the image length is below h, it becomes h + 1"
@@ -11,7 +9,7 @@ raised_to h n = pick (ltb n h) (h + 1) n
 
 -- "With fill, size and offset, let h = offset + size - 1". A bank of no bits at offset 0 leaves the length as it is: of natural
 -- numbers, 0 - 1 is 0. (A filled bank of size 0 is refused by the table's check.)
-abbrev pub filled_by : Bool → Opt → Opt → ℕ → ℕ
+abbrev pub filled_by : Bool → Option ℕ → Option ℕ → ℕ → ℕ
 filled_by true (Some size) (Some offset) n = raised_to (offset + size - 1) n
 filled_by true (Some size) None n = n
 filled_by true None offset n = n
@@ -27,7 +25,7 @@ abbrev pub fill_length : List Bankdef → ℕ
 fill_length l = fill_from 0 l
 
 -- Ticket 8: "offset + size among banks with fill, size and offset"; of another bank 0
-abbrev pub end_by : Bool → Opt → Opt → ℕ
+abbrev pub end_by : Bool → Option ℕ → Option ℕ → ℕ
 end_by true (Some size) (Some offset) = offset + size
 end_by true (Some size) None = 0
 end_by true None offset = 0

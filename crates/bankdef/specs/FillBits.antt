@@ -1,16 +1,14 @@
 -- Ticket 6: which bits of an image take a fill bit, and which. "In a bank other than bank 0 with fill, size and offset, every bit of its range
 -- inside the image length that belongs to no written item takes the fill bit, reserved bits too." Here the range and the bit; the image
 -- length and the items are the build's.
-use Rattle.std.specs.Prelude.{◌≡◌, Bool, true, false, ◌&&◌, ◌||◌, List, [], ◌∷◌, ℕ, ◌+◌, ◌≤◌, ◌<◌, ltb, leb, eqb, length, get_or, drop}
+use Rattle.std.specs.Prelude.{◌≡◌, Bool, true, false, ◌&&◌, ◌||◌, List, [], ◌∷◌, ℕ, ◌+◌, ◌≤◌, ◌<◌, ltb, leb, eqb, length, get_or, drop, Option, Some, None}
 use Rattle.prelude.specs.Pick.{pick}
-use Rattle.prelude.specs.declared.Opt.{Opt}
-use Rattle.prelude.specs.declared.Opt.TheVariants.{None, Some}
 use Rattle.bankdef.specs.declared.Bankdef.{Bankdef}
 use Rattle.bankdef.specs.Numbers.{fill_bit}
 use Rattle.bankdef.specs.Check.{no_bank}
 
 -- "fill, size and offset, every bit of its range"
-abbrev pub fills_by : Bool → Opt → Opt → ℕ → Bool
+abbrev pub fills_by : Bool → Option ℕ → Option ℕ → ℕ → Bool
 fills_by true (Some size) (Some offset) p = leb offset p && ltb p (offset + size)
 fills_by true (Some size) None p = false
 fills_by true None offset p = false

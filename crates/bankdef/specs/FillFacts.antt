@@ -1,7 +1,6 @@
 -- What the fill does to the image's length, bank by bank and over the whole table: document 01, "Fill takes every bank in order, bank 0
 -- too. With fill, size and offset, let h = offset + size - 1; if the image length is below h, it becomes h + 1."
-use Rattle.std.specs.Prelude.{◌≡◌, true, ℕ, ◌+◌, ◌-◌, ◌≤◌, ◌<◌}
-use Rattle.prelude.specs.declared.Opt.TheVariants.{Some}
+use Rattle.std.specs.Prelude.{◌≡◌, true, ℕ, ◌+◌, ◌-◌, ◌≤◌, ◌<◌, Some}
 use Rattle.bankdef.specs.declared.Bankdef.{Bankdef}
 use Rattle.bankdef.specs.Fill.{filled_by}
 

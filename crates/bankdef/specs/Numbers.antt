@@ -1,11 +1,9 @@
 -- Refusal 2: "a bank number is beyond its limit, or a filled bank has size 0"; Ticket 6: "2 also for bank 0 with fill bit one, filled or
 -- not". A unit above 65,535, and a size, an offset or an alignment above 4,294,967,295, stand in no bank: the record's types do not hold
 -- them. What is left to test is the rest.
-use Rattle.std.specs.Prelude.{◌≡◌, Bool, true, false, not, ◌&&◌, ◌||◌, ℕ, ◌≤◌, ◌<◌, ltb, eqb, ℤ, pos, neg_ℤ, nat_abs}
+use Rattle.std.specs.Prelude.{◌≡◌, Bool, true, false, not, ◌&&◌, ◌||◌, ℕ, ◌≤◌, ◌<◌, ltb, eqb, ℤ, pos, neg_ℤ, nat_abs, Option, None, Some}
 use Rattle.std.specs.Int.Signed.{le_z}
 use Rattle.prelude.specs.Limits.{max_start}
-use Rattle.prelude.specs.declared.Opt.{Opt}
-use Rattle.prelude.specs.declared.Opt.TheVariants.{None, Some}
 use Rattle.bankdef.specs.declared.Bankdef.{Bankdef}
 
 -- "start address: -2^40 to 2^40"
@@ -13,7 +11,7 @@ abbrev pub start_sound : ℤ → Bool
 start_sound start = le_z (neg_ℤ (pos max_start)) start && le_z start (pos max_start)
 
 -- a size that is there and is 0
-abbrev pub is_zero : Opt → Bool
+abbrev pub is_zero : Option ℕ → Bool
 is_zero None = false
 is_zero (Some bits) = eqb bits 0
 

@@ -1,9 +1,7 @@
 -- The pairs of a table: which overlap, which is the first, and that the search of `first_pair` finds it.
-use Rattle.std.specs.Prelude.{◌≡◌, true, List, ◌⊎◌, ℕ, ◌≤◌, ◌<◌, length, get_or}
-use Rattle.prelude.specs.declared.Opt.TheVariants.{Some}
+use Rattle.std.specs.Prelude.{◌≡◌, true, List, ◌⊎◌, ℕ, ◌≤◌, ◌<◌, length, get_or, Some, Err}
 use Rattle.prelude.specs.declared.Refusal.TheVariants.{BanksOverlap}
-use Rattle.prelude.specs.declared.Verdict.{Verdict}
-use Rattle.prelude.specs.declared.Verdict.TheVariants.{Accepted, Refused}
+use Rattle.prelude.specs.Verdict.{Verdict, Accepted}
 use Rattle.bankdef.specs.declared.Bankdef.{Bankdef}
 use Rattle.bankdef.specs.Overlap.{ranges_overlap}
 use Rattle.bankdef.specs.Check.{no_bank}
@@ -31,4 +29,4 @@ pub record FirstOverlap (l : List Bankdef) (i j : ℕ) : Type 0 where
 -- What the pairs of a table's banks say.
 pub data Pairs (l : List Bankdef) : Verdict → Type 0 where
   apart : ((i j : ℕ) → OverlapAt l i j → ⊥) → Pairs l Accepted
-  joint : {i j : ℕ} → FirstOverlap l i j → Pairs l (Refused (BanksOverlap i j))
+  joint : {i j : ℕ} → FirstOverlap l i j → Pairs l (Err (BanksOverlap i j))

@@ -1,4 +1,5 @@
 -- A byte gives two digits: the upper four bits and the lower four, of what is printed of it.
+use Rattle.std.specs.Prelude.{Ok, Err}
 use mathlib.Core.Path.{◌≡◌, sym, ap, ◌∙◌}
 use mathlib.Core.Bool.{true, false}
 use mathlib.Core.List.{List, ◌++◌}
@@ -7,7 +8,6 @@ use native.Mathlib.Omega.{arith}
 use lib.ListN.{length, get_or, set, drop}
 use borrow.Author.Tests.{le-leb, lt-leb}
 use Rattle.prelude.specs.declared.Refusal.TheVariants.{Malformed, TooShort}
-use Rattle.bitvec.specs.declared.Hex.TheVariants.{Digits, Refused}
 use Rattle.bitvec.specs.Within.{ends_within}
 use Rattle.bitvec.specs.Lists.{list_of}
 use Rattle.bitvec.specs.Laws.Lists.{list_of-more}
@@ -71,19 +71,19 @@ module _ (f : ℕ → ℕ) (d : List ℕ) where
 -- What a call owes, by what its tests say.
 module _ (bytes : List ℕ) (bits : ℕ) (hex : List ℕ) where
   pub all-printed : (n : ℕ) (after : List ℕ) → ends_within (length bytes) 0 bits ≡ true → digit_count bits ≤ length hex → n ≡ digit_count bits
-      → after ≡ hex_of bytes bits ++ drop (digit_count bits) hex → Prints bytes bits hex (Digits n) after
+      → after ≡ hex_of bytes bits ++ drop (digit_count bits) hex → Prints bytes bits hex (Ok n) after
   all-printed n after t l e d =
       let f = le-leb (digit_count bits) (length hex) l in
-      let a : Digits n ≡ hex_answer bytes bits hex = rw (t, f, e) in
+      let a : Ok n ≡ hex_answer bytes bits hex = rw (t, f, e) in
       record { answer = a; digits = rw (t, f) d; told = hex-told bytes bits hex a }
 
-  pub past_bytes : ends_within (length bytes) 0 bits ≡ false → Prints bytes bits hex (Refused (Malformed 0)) hex
+  pub past_bytes : ends_within (length bytes) 0 bits ≡ false → Prints bytes bits hex (Err (Malformed 0)) hex
   past_bytes t =
-      let a : Refused (Malformed 0) ≡ hex_answer bytes bits hex = rw t in
+      let a : Err (Malformed 0) ≡ hex_answer bytes bits hex = rw t in
       record { answer = a; digits = rw t; told = hex-told bytes bits hex a }
 
-  pub hex-short : ends_within (length bytes) 0 bits ≡ true → length hex < digit_count bits → Prints bytes bits hex (Refused (TooShort 3)) hex
+  pub hex-short : ends_within (length bytes) 0 bits ≡ true → length hex < digit_count bits → Prints bytes bits hex (Err (TooShort 3)) hex
   hex-short t l =
       let f = lt-leb (digit_count bits) (length hex) l in
-      let a : Refused (TooShort 3) ≡ hex_answer bytes bits hex = rw (t, f) in
+      let a : Err (TooShort 3) ≡ hex_answer bytes bits hex = rw (t, f) in
       record { answer = a; digits = rw (t, f); told = hex-told bytes bits hex a }

@@ -1,23 +1,30 @@
 -- How a range of ones is put together from bytes: one store makes the ones of one byte.
 use mathlib.Core.Path.{◌≡◌, refl, sym, ap, ◌∙◌}
-use mathlib.Core.Bool.{true, false}
+use mathlib.Core.Bool.{Bool, true, false}
 use mathlib.Core.List.{List}
 use Prim.Native.Nat.{ℕ, zero, suc, ◌+◌, ◌-◌, ◌*◌, ◌/◌, ◌%◌, ◌^◌, ◌≤◌, ◌<◌, min}
 use native.Mathlib.Decide.{dec_lt, ℕ_discrete}
 use native.Mathlib.Nat.{pow-zero, pow-suc}
 use native.Mathlib.Omega.{arith}
-use lib.ListN.{length, get_or, set, length-set}
+use lib.ListN.{length, get_or, set, replicate, length-set}
+use borrow.Rule.Slice.PartMut.{put_mid}
+use Rattle.std.specs.Bool.{MatchBool}
+use Rattle.std.specs.List.{AllWithin, HoldsAt, range_with_len}
+use Rattle.std.proofs.lemmas.List.{length-replicate, get_or-replicate}
+use Rattle.std.proofs.lemmas.List.FromFn.{length-range_with_len, get_or-range_with_len}
 use lib.Seq.{get_or-set_same, get_or-set_other}
 use Rattle.prelude.specs.Laws.Bools.{clash}
 use Rattle.prelude.specs.Pick.{pick}
 use Rattle.bitvec.specs.Numeral.{numeral, bit_of}
-use Rattle.bitvec.specs.Laws.Numeral.{pick-lt, bit_of-numeral}
+use Rattle.bitvec.specs.Laws.Numeral.{pick-lt, numeral-cong, bit_of-numeral}
+use Rattle.bitvec.specs.Laws.Ones.{between-inside, between-not}
+use Rattle.bitvec.proofs.Pieces.{put-bytes}
 use Rattle.bitvec.specs.Bits.{bit_at, Bytes}
 use Rattle.bitvec.specs.Within.{covers}
 use Rattle.bitvec.specs.Laws.Within.{covers-inside, covers-not}
 use Rattle.bitvec.specs.Laws.Bits.{bit_at_lt, bit_at-past}
-use Rattle.bitvec.specs.Ones.{with_ones, AnyOne}
-use Rattle.bitvec.specs.Theorems.Ones.{length-ones, bytes-ones, only-ones, ones-runs}
+use Rattle.bitvec.specs.Ones.{with_ones, ones_bit, AnyOne}
+use Rattle.bitvec.specs.Theorems.Ones.{only-ones, ones-runs}
 use Rattle.bitvec.specs.Steps.{spliced}
 
 -- n ones are one less than a power of 2
@@ -27,8 +34,8 @@ numeral-ones zero = omega (arith, pow-zero 2)
 numeral-ones (suc n) = omega (arith, numeral-ones n, pow-suc 2 n)
 
 -- so each bit of such a number is one
-pub ones_bit : (n x : ℕ) → x + 1 ≡ 2 ^ n → (b : ℕ) → b < n → bit_of n x b ≡ 1
-ones_bit n x e b h =
+all-ones : (n x : ℕ) → x + 1 ≡ 2 ^ n → (b : ℕ) → b < n → bit_of n x b ≡ 1
+all-ones n x e b h =
     let same : x ≡ numeral n (λ i. 1) = omega (arith, numeral-ones n) in
     rw same (bit_of-numeral n (λ i. 1) (λ i. omega arith) b h)
 
@@ -80,21 +87,21 @@ spliced-ones image j at n chunk v bytes there fits c e byte = stored-ones image 
     by_bits b h = rw e (bit_of-numeral 8 bit (λ i. pick-lt (covers at n i) (omega arith) (omega arith)) b h)
 
     new : (b : ℕ) → b < 8 → at ≤ b → b < at + n → bit_of 8 v b ≡ 1
-    new b h l m = by_bits b h ∙ rw (covers-inside at n b l m) (ones_bit n chunk c (b - at) (omega arith))
+    new b h l m = by_bits b h ∙ rw (covers-inside at n b l m) (all-ones n chunk c (b - at) (omega arith))
 
     old : (b : ℕ) → b < 8 → (at ≤ b → b < at + n → ⊥) → bit_of 8 v b ≡ bit_of 8 (get_or image j 0) b
     old b h out = by_bits b h ∙ rw (covers-not at n b out)
 
--- One whole byte more.
-pub ones-more : (image : List ℕ) (j i : ℕ) → j ≤ i → i < length image
-    → set (with_ones image (8 * j) (8 * i)) i 255 ≡ with_ones image (8 * j) (8 * (i + 1))
-ones-more image j i h l =
-    let done = with_ones image (8 * j) (8 * i) in
-    stored-ones done i 0 8 255 (bytes-ones image (8 * j) (8 * i)) (omega (arith, length-ones image (8 * j) (8 * i))) (omega arith) (omega arith)
-    (λ b lt p q. ones_bit 8 255 (omega arith) b lt) (λ b lt out. absurd (out (omega arith) (omega arith)))
-    ∙ ap (λ (p : ℕ). with_ones done p (p + 8)) (omega arith)
-    ∙ ones-runs image (8 * j) (8 * i) (8 * i + 8) (omega arith) (omega arith)
-    ∙ ap (with_ones image (8 * j)) (omega arith)
+-- Whole bytes of ones.
+pub ones-bytes : (image : List ℕ) (j k : ℕ) → Bytes image → j ≤ k → k ≤ length image
+    → put_mid j (k - j) image (replicate (k - j) 255) ≡ with_ones image (8 * j) (8 * k)
+unfolding with_ones ones_bit numeral
+ones-bytes image j k known h l =
+    put-bytes image j (k - j) (replicate (k - j) 255) (ones_bit image (8 * j) (8 * k)) known (length-replicate (k - j) 255) (omega arith)
+    (λ i lt.
+    get_or-replicate (k - j) i 255 0 lt
+    ∙ numeral-cong 8 (λ b. 1) (λ b. ones_bit image (8 * j) (8 * k) (8 * (j + i) + b)) (λ b less. sym (rw (between-inside (8 * j) (8 * k) (8 * (j + i) + b) (omega arith) (omega arith)))))
+    (λ p out. rw (between-not (8 * j) (8 * k) p (λ a b. out a (omega arith))))
 
 -- Two calls, the second where the first ended, make one range.
 pub two-ranges : (image mid after : List ℕ) (from m m' end : ℕ) → mid ≡ with_ones image from m → after ≡ with_ones mid m' end
@@ -109,39 +116,48 @@ same-range image after from end from' end' h e f = rw (h, e, f)
 -- ---- whether there is a one
 
 module _ (image : List ℕ) (from : ℕ) where
-  -- none before bit i
-  abbrev pub NoneBefore : ℕ → Type 0
-  NoneBefore i = (k : ℕ) → from ≤ k → k < i → bit_at image k ≡ 0
-
   -- one bit, as it is read
-  one_bit : (i r : ℕ) → r ≡ numeral 1 (λ j. bit_at image (8 * (i / 8) + i % 8 + j)) → r ≡ bit_at image i
+  one_bit : (i m r : ℕ) → m ≡ i → r ≡ numeral 1 (λ j. bit_at image (m + j)) → r ≡ bit_at image i
   unfolding numeral
-  one_bit i r e =
-      let same : bit_at image (8 * (i / 8) + i % 8 + 0) ≡ bit_at image i = ap (bit_at image) (omega arith) in
-      let read : r ≡ 0 * 2 + bit_at image (8 * (i / 8) + i % 8 + 0) = e in
+  one_bit i m r p e =
+      let same : bit_at image (m + 0) ≡ bit_at image i = ap (bit_at image) (omega arith) in
+      let read : r ≡ 0 * 2 + bit_at image (m + 0) = e in
       omega (arith, read, same)
 
-  pub none_more : (i r : ℕ) → NoneBefore i → r ≡ numeral 1 (λ j. bit_at image (8 * (i / 8) + i % 8 + j)) → (r ≡ 1 → ⊥) → NoneBefore (i + 1)
-  none_more i r h e other k p q =
-      elim (ℕ_discrete k i) [
-        | no d ↦ h k p (elim (dec_lt k i) [ yes l ↦ l | no l ↦ absurd (d (omega arith)) ])
-        | yes d ↦
-            let bit = one_bit i r e in
-            let small = bit_at_lt image i in
-            ap (bit_at image) d ∙ elim (ℕ_discrete (bit_at image i) 0) [ yes z ↦ z | no z ↦ absurd (other (omega (arith, bit, small, z))) ]
-      ]
+  pub bit-one : (i m r : ℕ) → m ≡ i → r ≡ numeral 1 (λ j. bit_at image (m + j)) → r ≡ 1 → bit_at image i ≡ 1
+  bit-one i m r p e h = sym (one_bit i m r p e) ∙ h
 
-  pub any_none : (end stop i : ℕ) → stop ≡ min end (8 * length image) → stop ≤ i → NoneBefore i → AnyOne image from end false
-  any_none end stop i e l h =
+  pub bit-none : (i m r : ℕ) → m ≡ i → r ≡ numeral 1 (λ j. bit_at image (m + j)) → (r ≡ 1 → ⊥) → bit_at image i ≡ 0
+  bit-none i m r p e h = omega (arith, one_bit i m r p e, bit_at_lt image i, h)
+
+  -- what a search of the bits before `stop` tells
+  pub any-told : (end stop : ℕ) (r : Bool) → stop ≡ min end (8 * length image)
+      → MatchBool r
+      ((k : ℕ) × (k < length (range_with_len from (stop - from))) × HoldsAt (λ i. bit_at image i ≡ 1) (range_with_len from (stop - from)) k)
+      (AllWithin (λ i. bit_at image i ≡ 0) (range_with_len from (stop - from)) 0 (length (range_with_len from (stop - from))))
+      → AnyOne image from end r
+  any-told end stop true e h =
+      let lt : h.0 < stop - from = omega (arith, h.1, length-range_with_len from (stop - from)) in
+      record {
+        some = λ z.
+            record {
+              bit = from + h.0;
+              low = omega arith;
+              high = omega arith;
+              one = sym (ap (bit_at image) (get_or-range_with_len from (stop - from) h.0 0 lt)) ∙ h.2 0;
+            };
+        none = λ z. absurd (clash refl z);
+      }
+  any-told end stop false e h =
       record {
         some = λ z. absurd (clash z refl);
-        none = λ z k p q. elim (dec_lt k (8 * length image)) [ yes b ↦ h k p (omega arith) | no b ↦ bit_at-past image k (omega arith) ];
-      }
-
-  pub any_some : (end stop i r : ℕ) → stop ≡ min end (8 * length image) → from ≤ i → i < stop
-      → r ≡ numeral 1 (λ j. bit_at image (8 * (i / 8) + i % 8 + j)) → r ≡ 1 → AnyOne image from end true
-  any_some end stop i r e l h b one =
-      record {
-        some = λ z. record { bit = i; low = l; high = omega arith; one = sym (one_bit i r b) ∙ one };
-        none = λ z. absurd (clash refl z);
+        none = λ z k p q.
+            elim (dec_lt k (8 * length image)) [
+              | no b ↦ bit_at-past image k (omega arith)
+              | yes b ↦
+                  let lt : k - from < stop - from = omega arith in
+                  let at : from + (k - from) ≡ k = omega arith in
+                  sym (ap (bit_at image) (get_or-range_with_len from (stop - from) (k - from) 0 lt ∙ at))
+                  ∙ h (k - from) 0 (omega arith) (omega (arith, length-range_with_len from (stop - from)))
+            ];
       }

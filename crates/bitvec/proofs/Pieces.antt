@@ -1,4 +1,5 @@
 -- How an item is put together from pieces: one store writes the bits of one byte, and two runs that meet are one run.
+use Rattle.std.specs.Prelude.{Err}
 use mathlib.Core.Path.{◌≡◌, sym, ap, ap₂, ◌∙◌}
 use mathlib.Core.List.{List}
 use mathlib.Core.Bool.{true, false}
@@ -6,17 +7,20 @@ use Prim.Native.Nat.{ℕ, ◌+◌, ◌-◌, ◌*◌, ◌/◌, ◌%◌, ◌^◌, 
 use native.Mathlib.Decide.{ℕ_discrete, dec_lt, dec_le}
 use native.Mathlib.Nat.{div-add-mod'}
 use native.Mathlib.Omega.{arith}
-use lib.ListN.{length, get_or, set, length-set}
+use lib.ListN.{length, get_or, set, take, drop, length-set}
 use lib.Seq.{ext_get_or, get_or-set_same, get_or-set_other}
+use borrow.Rule.Slice.PartMut.{put_mid}
+use Rattle.std.proofs.Common.{rules}
+use Rattle.std.proofs.lemmas.List.{places, length-take-le, get_or_append_left, get_or-append_right, get_or-take, get_or-drop}
 use Rattle.prelude.specs.Pick.{pick}
 use Rattle.prelude.specs.declared.Refusal.TheVariants.{Malformed}
-use Rattle.prelude.specs.declared.Verdict.TheVariants.{Accepted, Refused}
+use Rattle.prelude.specs.Verdict.{Accepted}
 use Rattle.bitvec.specs.Numeral.{numeral, bit_of, Bits}
 use Rattle.bitvec.specs.Laws.Numeral.{pick-lt, numeral-cong, numeral-lt, numeral-add, numeral-field, numeral-spliced, numeral-shifted}
 use Rattle.bitvec.specs.Laws.Numeral.{bit_of-numeral, numeral-bit_of}
-use Rattle.bitvec.specs.Bits.{bit_at, Bytes}
+use Rattle.bitvec.specs.Bits.{bit_at, of_bits, Bytes}
 use Rattle.bitvec.specs.Laws.Bits.{bit_at_lt, bit_at-byte, byte-numeral}
-use Rattle.bitvec.specs.Theorems.Bits.{get_d-of_bits, same_bits}
+use Rattle.bitvec.specs.Theorems.Bits.{length-of_bits, get_d-of_bits, same_bits}
 use Rattle.bitvec.specs.Within.{ends_within, covers}
 use Rattle.bitvec.specs.Laws.Within.{covers-before, covers-inside, covers-after, covers-not}
 use Rattle.bitvec.specs.Steps.{spliced}
@@ -46,17 +50,6 @@ stored image position values start size j v bytes h from to e =
           (λ b lt. sym (written_bit-outside image position values start size (8 * i + b) (λ p q. other (omega arith))))
           ∙ sym (get_d-of_bits (length image) (written_bit image position values start size) i below)
     ]
-
--- A whole byte of the item.
-pub stored-whole : (image : List ℕ) (j : ℕ) (values : List ℕ) (start v : ℕ) → Bytes image → j < length image
-    → v ≡ numeral 8 (λ b. bit_at values (start + b)) → set image j v ≡ written image (8 * j) values start 8
-stored-whole image j values start v bytes h e =
-    stored image (8 * j) values start 8 j v bytes h (omega arith) (omega arith)
-    (e
-    ∙ numeral-cong 8 (λ b. bit_at values (start + b)) (λ b. written_bit image (8 * j) values start 8 (8 * j + b))
-    (λ b lt.
-    ap (λ (i : ℕ). bit_at values (start + i)) (omega arith)
-    ∙ sym (written_bit-inside image (8 * j) values start 8 (8 * j + b) (omega arith) (omega arith))))
 
 -- An item of no bits changes nothing.
 pub written_none : (image : List ℕ) (position : ℕ) (values : List ℕ) (start size : ℕ) → Bytes image → size ≡ 0
@@ -150,10 +143,10 @@ module _ (old at n chunk below above : ℕ) (fits : at + n ≤ 8) (byte : old < 
       record { sum = sum-holds; byte = numeral-lt 8 _ (λ b. pick-lt (covers at n b) (omega arith) (omega arith)) }
 
 -- The n bits from s on of a number of w bits: a shift drops those below, a remainder those above.
-field_of : (w s n x : ℕ) (f : ℕ → ℕ) → Bits f → s + n ≤ w → x ≡ numeral w f → x / 2 ^ (w - s - n) % 2 ^ n ≡ numeral n (λ i. f (s + i))
+field_of : (w s n x : ℕ) (f : ℕ → ℕ) → Bits f → s + n ≤ w → x ≡ numeral w f → x / 2 ^ (w - (s + n)) % 2 ^ n ≡ numeral n (λ i. f (s + i))
 field_of w s n x f bits h e =
     rw e
-    (ap (λ (m : ℕ). numeral m f / 2 ^ (w - s - n) % 2 ^ n) (omega arith) ∙ numeral-field s n (w - s - n) f bits)
+    (ap (λ (m : ℕ). numeral m f / 2 ^ (w - (s + n)) % 2 ^ n) (omega arith) ∙ numeral-field s n (w - (s + n)) f bits)
 
 module _ (l : List ℕ) (bytes : Bytes l) (k s n : ℕ) where
   from_byte : ℕ → ℕ
@@ -165,12 +158,12 @@ module _ (l : List ℕ) (bytes : Bytes l) (k s n : ℕ) where
   from_first = numeral-cong n _ _ (λ i h. ap (λ (b : ℕ). bit_at l b) (omega arith))
 
   -- bits that lie in one byte
-  pub byte-field : s + n ≤ 8 → get_or l k 0 / 2 ^ (8 - s - n) % 2 ^ n ≡ numeral n (λ i. bit_at l (8 * k + s + i))
+  pub byte-field : s + n ≤ 8 → get_or l k 0 / 2 ^ (8 - (s + n)) % 2 ^ n ≡ numeral n (λ i. bit_at l (8 * k + s + i))
   unfolding from_byte
   byte-field h = field_of 8 s n (get_or l k 0) from_byte (λ b. bit_at_lt l (8 * k + b)) h (byte-numeral l bytes k) ∙ from_first
 
   -- bits that lie in two neighbours
-  pub pair-field : s + n ≤ 16 → (get_or l k 0 * 256 + get_or l (k + 1) 0) / 2 ^ (16 - s - n) % 2 ^ n ≡ numeral n (λ i. bit_at l (8 * k + s + i))
+  pub pair-field : s + n ≤ 16 → (get_or l k 0 * 256 + get_or l (k + 1) 0) / 2 ^ (16 - (s + n)) % 2 ^ n ≡ numeral n (λ i. bit_at l (8 * k + s + i))
   unfolding from_byte
   pair-field h =
       field_of 16 s n (get_or l k 0 * 256 + get_or l (k + 1) 0) from_byte (λ b. bit_at_lt l (8 * k + b)) h
@@ -226,19 +219,70 @@ pair-shifted l bytes k s i h =
     first : (b : ℕ) → b < 8 → from (s + b) ≡ bit_at l (8 * k + s + 8 * i + b)
     first b lt = ap (λ (n : ℕ). bit_at l n) (omega arith)
 
--- One whole byte more.
-pub stored_more : (image : List ℕ) (j : ℕ) (values : List ℕ) (first i v : ℕ) → j + i < length image
-    → v ≡ numeral 8 (λ b. bit_at values (first + 8 * i + b))
-    → set (written image (8 * j) values first (8 * i)) (j + i) v ≡ written image (8 * j) values first (8 * (i + 1))
-stored_more image j values first i v h e =
-    stored-whole done (j + i) values (first + 8 * i) v (bytes-written image (8 * j) values first (8 * i))
-    (omega (arith, length-written image (8 * j) values first (8 * i))) e
-    ∙ ap (λ (p : ℕ). written done p values (first + 8 * i) 8) (omega arith)
-    ∙ written-runs image (8 * j) values first (8 * i) 8
-    ∙ ap (λ (n : ℕ). written image (8 * j) values first n) (omega arith)
-  where
-    done : List ℕ
-    done = written image (8 * j) values first (8 * i)
+-- A list of bytes, by their bits.
+made-of_bits : (l : List ℕ) (n : ℕ) (f : ℕ → ℕ) → length l ≡ n → ((i : ℕ) → i < n → get_or l i 0 ≡ numeral 8 (λ b. f (8 * i + b))) → l ≡ of_bits n f
+made-of_bits l n f e h =
+    ext_get_or 0 l (of_bits n f) (e ∙ sym (length-of_bits n f))
+    (λ i lt. h i (omega (arith, e)) ∙ sym (get_d-of_bits n f i (omega (arith, e))))
+
+-- Whole bytes in the place of the image's from byte j on, where f has their bits there and the image's elsewhere.
+module _ (image : List ℕ) (j k : ℕ) (bytes : List ℕ) (f : ℕ → ℕ) (known : Bytes image) (len : length bytes ≡ k) (fits : j + k ≤ length image)
+    (new : (i : ℕ) → i < k → get_or bytes i 0 ≡ numeral 8 (λ b. f (8 * (j + i) + b)))
+    (old : (p : ℕ) → (8 * j ≤ p → p < 8 * (j + k) → ⊥) → f p ≡ bit_at image p) where
+  kept-byte : (i : ℕ) → (j ≤ i → i < j + k → ⊥) → get_or image i 0 ≡ numeral 8 (λ b. f (8 * i + b))
+  kept-byte i out =
+      byte-numeral image known i ∙ numeral-cong 8 _ _ (λ b h. sym (old (8 * i + b) (λ p q. out (omega arith) (omega arith))))
+
+  put-byte : (i : ℕ) → i < length image → get_or (put_mid j k image bytes) i 0 ≡ numeral 8 (λ b. f (8 * i + b))
+  put-byte i h =
+      let front : length (take j image) ≡ j = length-take-le j image (omega arith) in
+      elim (dec_lt i j) [
+        | yes before ↦
+            get_or_append_left (take j image) _ 0 i (omega (arith, front)) ∙ get_or-take j image i 0 before ∙ kept-byte i (λ p q. omega arith)
+        | no from ↦
+            get_or-append_right (take j image) _ j i 0 front (omega arith)
+            ∙ elim (dec_lt i (j + k)) [
+              | yes to ↦
+                  get_or_append_left bytes _ 0 (i - j) (omega (arith, len)) ∙ new (i - j) (omega arith)
+                  ∙ numeral-cong 8 _ _ (λ b lt. ap f (omega arith))
+              | no past ↦
+                  get_or-append_right bytes _ k (i - j) 0 len (omega arith) ∙ get_or-drop k (drop j image) (i - j - k) 0
+                  ∙ get_or-drop j image _ 0 ∙ ap (λ (n : ℕ). get_or image n 0) (omega arith)
+                  ∙ kept-byte i (λ p q. past q)
+            ]
+      ]
+
+  pub put-bytes : put_mid j k image bytes ≡ of_bits (length image) f
+  put-bytes = made-of_bits (put_mid j k image bytes) (length image) f (search (rules, places, len)) put-byte
+
+-- The first n bytes are the item's, whose bits are the values' from bit `start` on.
+abbrev pub OfItem : List ℕ → ℕ → List ℕ → ℕ → Type 0
+OfItem values start bytes n = (i : ℕ) → i < n → get_or bytes i 0 ≡ numeral 8 (λ b. bit_at values (start + 8 * i + b))
+
+-- One byte more.
+pub item_more : (values : List ℕ) (start : ℕ) (bytes : List ℕ) (i v : ℕ) → i < length bytes → OfItem values start bytes i
+    → v ≡ numeral 8 (λ b. bit_at values (start + 8 * i + b)) → OfItem values start (set bytes i v) (i + 1)
+item_more values start bytes i v h before e n l =
+    elim (dec_lt n i) [
+      | yes lt ↦ get_or-set_other bytes i n v 0 (λ same. omega arith) ∙ before n lt
+      | no ge ↦
+          let same : n ≡ i = omega arith in
+          rw same (get_or-set_same bytes i v 0 h ∙ e)
+    ]
+
+-- Whole bytes of the item.
+pub whole-bytes : (image : List ℕ) (j k n : ℕ) (bytes values : List ℕ) (start : ℕ) → Bytes image → k ≡ n → length bytes ≡ n → j + n ≤ length image
+    → OfItem values start bytes n → put_mid j k image bytes ≡ written image (8 * j) values start (8 * n)
+unfolding written
+whole-bytes image j k n bytes values start known e len fits new =
+    rw e
+    (put-bytes image j n bytes (written_bit image (8 * j) values start (8 * n)) known len fits
+    (λ i h.
+    new i h
+    ∙ numeral-cong 8 _ _ (λ b lt.
+    ap (bit_at values) (omega arith)
+    ∙ sym (written_bit-inside image (8 * j) values start (8 * n) (8 * (j + i) + b) (omega arith) (omega arith))))
+    (λ p out. written_bit-outside image (8 * j) values start (8 * n) p (λ a b. out a (omega arith))))
 
 -- A value byte as the item's byte, where the item starts on a byte edge.
 pub whole-byte : (l : List ℕ) → Bytes l → (k i : ℕ) → get_or l (k + i) 0 ≡ numeral 8 (λ b. bit_at l (8 * k + 8 * i + b))
@@ -256,10 +300,10 @@ module _ (image : List ℕ) (position : ℕ) (values : List ℕ) (start size : �
   pub accepted : (after : List ℕ) → ends_within (length image) position size ≡ true → ends_within (length values) start size ≡ true
       → after ≡ written image position values start size → Writes image position values start size Accepted after
   accepted after p v e =
-      let a : Accepted ≡ pick (is_written image position values start size) Accepted (Refused (Malformed 0)) = rw (p, v) in
+      let a : Accepted ≡ pick (is_written image position values start size) Accepted (Err (Malformed 0)) = rw (p, v) in
       record { answer = a; bytes = rw (p, v) e; told = write-told image position values start size a }
 
-  pub refused : is_written image position values start size ≡ false → Writes image position values start size (Refused (Malformed 0)) image
+  pub refused : is_written image position values start size ≡ false → Writes image position values start size (Err (Malformed 0)) image
   refused e =
-      let a : Refused (Malformed 0) ≡ pick (is_written image position values start size) Accepted (Refused (Malformed 0)) = rw e in
+      let a : Err (Malformed 0) ≡ pick (is_written image position values start size) Accepted (Err (Malformed 0)) = rw e in
       record { answer = a; bytes = rw e; told = write-told image position values start size a }

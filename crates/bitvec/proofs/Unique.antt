@@ -1,4 +1,5 @@
 -- Uniqueness: the contract of each public function has one outcome, over its own clause: the answer, and all that is lent afterwards.
+use Rattle.std.specs.Prelude.{Result}
 use Prim.Native.Nat.{ℕ, ◌≤◌, ◌<◌}
 use mathlib.Core.Bool.{Bool, true, false}
 use mathlib.Core.List.{List}
@@ -6,10 +7,10 @@ use mathlib.Core.Path.{◌≡◌, refl}
 use native.Mathlib.Omega.{arith}
 use Rattle.prelude.specs.Laws.Outcome.{OneOutcome, OneView}
 use Rattle.prelude.specs.Laws.Pick.{determined, paired}
-use Rattle.prelude.specs.declared.Verdict.{Verdict}
+use Rattle.prelude.specs.Verdict.{Verdict}
+use Rattle.prelude.specs.declared.Refusal.{Refusal}
 use Rattle.bitvec.specs.Bits.{bit_at}
 use Rattle.bitvec.specs.Ones.{OneBetween, AnyOne}
-use Rattle.bitvec.specs.declared.Hex.{Hex}
 use Rattle.bitvec.proofs.clear.Kinds as clear-kinds
 use Rattle.bitvec.proofs.clear.Reads as clear_reads
 use Rattle.bitvec.proofs.set_ones.Kinds as set-ones-kinds
@@ -46,7 +47,7 @@ pub any-one-unique : OneOutcome 1 any-one-kinds.ps any-one-kinds.r any-one-reads
 any-one-unique κs a x y e f p q = one_answer a.0.now a.1.0 a.1.1.0 x y p q
 
 -- the answer, and the image afterwards
-pub write-bits-unique : OneView 2 write-bits-kinds.ps write-bits-kinds.r write-bits-reads.Learnt (Verdict × List ℕ) (λ κs x e. (x, e.0.now))
+pub write-bits-unique : OneView 2 write-bits-kinds.ps write-bits-kinds.r write-bits-reads.Learnt ((Verdict) × List ℕ) (λ κs x e. (x, e.0.now))
 write-bits-unique κs a x y e f p q = paired (determined p.answer q.answer) (determined p.bytes q.bytes)
 
 -- the bytes of the part
@@ -57,5 +58,5 @@ pub part-verdict-unique : OneOutcome 1 part-verdict-kinds.ps part-verdict-kinds.
 part-verdict-unique κs a x y e f p q = determined p.answer q.answer
 
 -- the answer, and the hex digits afterwards
-pub write-hex-unique : OneView 2 write-hex-kinds.ps write-hex-kinds.r write-hex-reads.Learnt (Hex × List ℕ) (λ κs x e. (x, e.1.1.0.now))
+pub write-hex-unique : OneView 2 write-hex-kinds.ps write-hex-kinds.r write-hex-reads.Learnt ((Result ℕ Refusal) × List ℕ) (λ κs x e. (x, e.1.1.0.now))
 write-hex-unique κs a x y e f p q = paired (determined p.answer q.answer) (determined p.digits q.digits)

@@ -1,13 +1,12 @@
 -- Document 01: "Hex takes four bits a digit, lower case, the last digit padded with zero bits." And of what is refused: "Block and hex
 -- calls try 4 (.. a bit length past the lent bytes), then 14"; "a lent output is too short: .. hex 3"; "After success, lent spans,
 -- blocks and hex keep their old contents past what was written."
-use Rattle.std.specs.Prelude.{◌≡◌, ◌&&◌, List, ◌++◌, ℕ, ◌+◌, ◌*◌, ◌/◌, ◌≤◌, ◌<◌, leb, ltb, length, drop}
+use Rattle.std.specs.Prelude.{◌≡◌, ◌&&◌, List, ◌++◌, ℕ, ◌+◌, ◌*◌, ◌/◌, ◌≤◌, ◌<◌, leb, ltb, length, drop, Result, Ok, Err}
 use Rattle.prelude.specs.Pick.{pick}
 use Rattle.prelude.specs.Told.{Told, gives, refuses, told_refusal}
 use Rattle.prelude.specs.declared.Place.TheVariants.{One}
 use Rattle.prelude.specs.declared.Refusal.TheVariants.{Malformed, TooShort}
-use Rattle.bitvec.specs.declared.Hex.{Hex}
-use Rattle.bitvec.specs.declared.Hex.TheVariants.{Digits, Refused}
+use Rattle.prelude.specs.declared.Refusal.{Refusal}
 use Rattle.bitvec.specs.Within.{ends_within}
 use Rattle.bitvec.specs.Lists.{list_of}
 use Rattle.bitvec.specs.Numeral.{numeral}
@@ -37,20 +36,20 @@ abbrev pub hex_of : List ℕ → ℕ → List ℕ
 hex_of bytes bits = list_of (digit_count bits) (digit_at bytes bits)
 
 -- A call's answer, and the lent hex afterwards.
-abbrev pub hex_answer : List ℕ → ℕ → List ℕ → Hex
+abbrev pub hex_answer : List ℕ → ℕ → List ℕ → Result ℕ Refusal
 hex_answer bytes bits hex =
     pick (ends_within (length bytes) 0 bits)
-    (pick (leb (digit_count bits) (length hex)) (Digits (digit_count bits)) (Refused (TooShort 3)))
-    (Refused (Malformed 0))
+    (pick (leb (digit_count bits) (length hex)) (Ok (digit_count bits)) (Err (TooShort 3)))
+    (Err (Malformed 0))
 
 abbrev pub hex_after : List ℕ → ℕ → List ℕ → List ℕ
 hex_after bytes bits hex =
     pick (ends_within (length bytes) 0 bits && leb (digit_count bits) (length hex)) (hex_of bytes bits ++ drop (digit_count bits) hex) hex
 
 -- what a caller is told
-abbrev pub told_hex : Hex → Told ℕ
-told_hex (Digits n) = gives n
-told_hex (Refused why) = told_refusal why
+abbrev pub told_hex : Result ℕ Refusal → Told ℕ
+told_hex (Ok n) = gives n
+told_hex (Err why) = told_refusal why
 
 -- "Block and hex calls try 4 (.. a bit length past the lent bytes), then 14", whose buffer is 3
 pub data HexTold (bytes : List ℕ) (bits : ℕ) (hex : List ℕ) : Told ℕ → Type 0 where
@@ -58,7 +57,7 @@ pub data HexTold (bytes : List ℕ) (bits : ℕ) (hex : List ℕ) : Told ℕ →
   short : bits ≤ 8 * length bytes → length hex < digit_count bits → HexTold bytes bits hex (refuses 14 (One 3))
   printed : bits ≤ 8 * length bytes → digit_count bits ≤ length hex → HexTold bytes bits hex (gives (digit_count bits))
 
-pub record Prints (bytes : List ℕ) (bits : ℕ) (hex : List ℕ) (count : Hex) (after : List ℕ) : Type 0 where
+pub record Prints (bytes : List ℕ) (bits : ℕ) (hex : List ℕ) (count : Result ℕ Refusal) (after : List ℕ) : Type 0 where
   pub answer : count ≡ hex_answer bytes bits hex
   pub digits : after ≡ hex_after bytes bits hex
   pub told : HexTold bytes bits hex (told_hex count)

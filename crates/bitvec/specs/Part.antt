@@ -1,12 +1,11 @@
 -- Document 01: "For a block on byte edges the caller gets back that part of its own image, not a copy. Refused (16), the part is empty,
 -- and the number is asked for separately."
-use Rattle.std.specs.Prelude.{◌≡◌, Bool, ◌&&◌, List, [], ℕ, ◌+◌, ◌*◌, ◌/◌, ◌%◌, ◌≤◌, ◌<◌, ltb, eqb, length, take, drop}
+use Rattle.std.specs.Prelude.{◌≡◌, Bool, ◌&&◌, List, [], ℕ, ◌+◌, ◌*◌, ◌/◌, ◌%◌, ◌≤◌, ◌<◌, ltb, eqb, length, take, drop, Err}
 use Rattle.prelude.specs.Pick.{pick}
 use Rattle.prelude.specs.Told.{Told, gives, refuses, Nothing, nothing, told_verdict}
 use Rattle.prelude.specs.declared.Place.TheVariants.{One}
 use Rattle.prelude.specs.declared.Refusal.TheVariants.{BadPart}
-use Rattle.prelude.specs.declared.Verdict.{Verdict}
-use Rattle.prelude.specs.declared.Verdict.TheVariants.{Accepted, Refused}
+use Rattle.prelude.specs.Verdict.{Verdict, Accepted}
 use Rattle.bitvec.specs.Within.{ends_within}
 
 -- 16 is given when "a part of an image is empty, outside it, or not on byte edges"; this is the contrary.
@@ -34,7 +33,7 @@ part_of image offset size = pick (is_part (length image) offset size) (take (siz
 
 -- The answer of the call that asks for the number.
 abbrev pub part_verdict : List ℕ → ℕ → ℕ → Verdict
-part_verdict image offset size = pick (is_part (length image) offset size) Accepted (Refused BadPart)
+part_verdict image offset size = pick (is_part (length image) offset size) Accepted (Err BadPart)
 
 -- What is told of a part: it can be handed out, or is refused 16, place 0.
 pub data PartTold (len offset size : ℕ) : Told Nothing → Type 0 where

@@ -1,12 +1,11 @@
 -- An item written into an image: which bit of the image afterwards comes from where. Document 01: "Bits run from the top of each byte,
 -- value bytes too." An item's bit j, counted from value bit `start`, is the image's bit `position` + j; every other bit stays.
-use Rattle.std.specs.Prelude.{◌≡◌, Bool, ◌&&◌, List, ℕ, ◌+◌, ◌-◌, ◌*◌, ◌≤◌, ◌<◌, length}
+use Rattle.std.specs.Prelude.{◌≡◌, Bool, ◌&&◌, List, ℕ, ◌+◌, ◌-◌, ◌*◌, ◌≤◌, ◌<◌, length, Err}
 use Rattle.prelude.specs.Pick.{pick}
 use Rattle.prelude.specs.Told.{Told, gives, refuses, Nothing, nothing, told_verdict}
 use Rattle.prelude.specs.declared.Place.TheVariants.{One}
 use Rattle.prelude.specs.declared.Refusal.TheVariants.{Malformed}
-use Rattle.prelude.specs.declared.Verdict.{Verdict}
-use Rattle.prelude.specs.declared.Verdict.TheVariants.{Accepted, Refused}
+use Rattle.prelude.specs.Verdict.{Verdict, Accepted}
 use Rattle.bitvec.specs.Within.{ends_within, covers}
 use Rattle.bitvec.specs.Bits.{bit_at, of_bits}
 
@@ -32,6 +31,6 @@ pub data WriteTold (image : List ℕ) (position : ℕ) (values : List ℕ) (star
 
 -- A call: its answer, and the image afterwards, which a refusal leaves as it was; and the answer's figures.
 pub record Writes (image : List ℕ) (position : ℕ) (values : List ℕ) (start size : ℕ) (verdict : Verdict) (after : List ℕ) : Type 0 where
-  pub answer : verdict ≡ pick (is_written image position values start size) Accepted (Refused (Malformed 0))
+  pub answer : verdict ≡ pick (is_written image position values start size) Accepted (Err (Malformed 0))
   pub bytes : after ≡ pick (is_written image position values start size) (written image position values start size) image
   pub told : WriteTold image position values start size (told_verdict verdict)

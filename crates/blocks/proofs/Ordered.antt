@@ -1,4 +1,5 @@
 -- The numbers in the order of their words stand for the spans taken by offset, but for those without, which are passed over.
+use Rattle.std.specs.Prelude.{Some}
 use mathlib.Core.Path.{◌≡◌, refl, sym, ap, fun_ext, ◌∙◌}
 use mathlib.Core.Bool.{true}
 use mathlib.Core.List.{List, [], ◌∷◌, ◌++◌, map, tail}
@@ -10,10 +11,9 @@ use borrow.Author.Tests.{le-leb, lt-leb}
 use lib.Dec.{leb}
 use lib.ListN.{length, get_or, take, drop, drop_of_length-le}
 use lib.Seq.{drop-cons, take_at, length-take-le}
-use Rattle.prelude.specs.declared.Offset.TheVariants.{At}
-use Rattle.prelude.specs.declared.Verdict.{Verdict}
 use Rattle.prelude.specs.Limits.{max_nodes}
 use Rattle.prelude.specs.Laws.Pick.{pick_true}
+use Rattle.prelude.specs.Verdict.{Verdict}
 use Rattle.sort.specs.Laws.Agree.{all-at}
 use Rattle.sort.proofs.Agree.{sorted-map}
 use Rattle.sort.specs.Numbers.{numbers_from, numbers_of, key_at, order}
@@ -49,7 +49,7 @@ abbrev word_rank : Span → ℕ
 word_rank s = word_of s.offset
 
 -- By its word or by its offset's rank, a span with an offset comes before the same ones.
-alike : (s b : Span) (o p : ℕ) → s.offset ≡ At o → b.offset ≡ At p → leb (word_rank s) (word_rank b) ≡ leb (rank_of s) (rank_of b)
+alike : (s b : Span) (o p : ℕ) → s.offset ≡ Some o → b.offset ≡ Some p → leb (word_rank s) (word_rank b) ≡ leb (rank_of s) (rank_of b)
 alike s b o p e f = rw (e, f) (⊎_elim
     (λ le. le-leb o p le ∙ sym (le-leb (suc o) (suc p) (omega arith)))
     (λ lt. lt-leb o p lt ∙ sym (lt-leb (suc o) (suc p) (omega arith)))

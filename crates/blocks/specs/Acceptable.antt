@@ -1,14 +1,12 @@
 -- Spans that are lent as document 01 has them, test by test and in its words.
-use Rattle.std.specs.Prelude.{◌≡◌, List, ℕ, ◌≤◌, ◌<◌, length, get_or}
-use Rattle.prelude.specs.declared.Offset.{Offset}
-use Rattle.prelude.specs.declared.Offset.TheVariants.{None, At}
+use Rattle.std.specs.Prelude.{◌≡◌, List, ℕ, ◌≤◌, ◌<◌, length, get_or, Option, None, Some}
 use Rattle.prelude.specs.Limits.{max_nodes, max_offer, max_position}
 use Rattle.blocks.specs.Offsets.{offset_of}
 
 -- "offer to the store: position to 8,589,934,590, size to 4,294,967,295"; a span may have no offset.
-abbrev pub OffsetFits : Offset → Type 0
+abbrev pub OffsetFits : Option ℕ → Type 0
 OffsetFits None = Unit {0}
-OffsetFits (At o) = o ≤ max_offer
+OffsetFits (Some o) = o ≤ max_offer
 
 abbrev pub SpanFits : ℕ → ℕ → Type 0
 SpanFits word size = OffsetFits (offset_of word) × (size ≤ max_position)

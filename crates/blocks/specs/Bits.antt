@@ -1,9 +1,7 @@
 -- Bits: which lie in a block. A bit lies in as many blocks as spans, whatever the spans are. So it lies in some block exactly when it
 -- lies in some span that has an offset, and blocks of spans that share no bit share none.
 use mathlib.Core.List.{List, [], ◌∷◌, Memᴰ}
-use Rattle.std.specs.Prelude.{ℕ, ◌+◌, ◌≤◌, ◌<◌}
-use Rattle.prelude.specs.declared.Offset.{Offset}
-use Rattle.prelude.specs.declared.Offset.TheVariants.{None, At}
+use Rattle.std.specs.Prelude.{ℕ, ◌+◌, ◌≤◌, ◌<◌, Option, None, Some}
 use Rattle.blocks.specs.declared.Block.{Block}
 use Rattle.blocks.specs.Spans.{Span}
 
@@ -14,18 +12,18 @@ InRun bit o size = (o ≤ bit) × (bit < o + size)
 abbrev pub InBlock : ℕ → Block → Type 0
 InBlock bit b = InRun bit b.origin b.size
 
-abbrev pub InPlaced : ℕ → Offset → ℕ → Type 0
+abbrev pub InPlaced : ℕ → Option ℕ → ℕ → Type 0
 InPlaced bit None size = ⊥
-InPlaced bit (At o) size = InRun bit o size
+InPlaced bit (Some o) size = InRun bit o size
 
 abbrev pub InSpan : ℕ → Span → Type 0
 InSpan bit s = InPlaced bit s.offset s.size
 
 -- Some element of a list is so.
-abbrev pub Some : {A : Type 0} → (A → Type 0) → List A → Type 0
-Some {A} P l = (a : A) × Memᴰ a l × P a
+abbrev pub SomeElement : {A : Type 0} → (A → Type 0) → List A → Type 0
+SomeElement {A} P l = (a : A) × Memᴰ a l × P a
 
 -- No two elements at different places share a bit.
 abbrev pub NoSharedBit : {A : Type 0} → (ℕ → A → Type 0) → List A → Type 0
 NoSharedBit In [] = Unit {0}
-NoSharedBit In (a ∷ l) = ((bit : ℕ) → In bit a → Some (In bit) l → ⊥) × NoSharedBit In l
+NoSharedBit In (a ∷ l) = ((bit : ℕ) → In bit a → SomeElement (In bit) l → ⊥) × NoSharedBit In l

@@ -1,7 +1,5 @@
 -- Spans, their limits, and the order in which they are taken.
-use Rattle.std.specs.Prelude.{Bool, true, false, List, [], ◌∷◌, ℕ, suc, leb, eqb, length}
-use Rattle.prelude.specs.declared.Offset.{Offset}
-use Rattle.prelude.specs.declared.Offset.TheVariants.{None, At}
+use Rattle.std.specs.Prelude.{Bool, true, false, List, [], ◌∷◌, ℕ, suc, leb, eqb, length, Option, None, Some}
 use Rattle.prelude.specs.Limits.{max_nodes, max_offer, max_position}
 use Rattle.prelude.specs.Pick.{pick}
 use Rattle.sort.specs.Sorted.{sorted_by}
@@ -9,7 +7,7 @@ use Rattle.blocks.specs.Offsets.{offset_of}
 
 -- "Spans are labels (size 0) and written items in node order, with address and offset or none."
 pub record Span : Type 0 where
-  pub offset : Offset
+  pub offset : Option ℕ
   pub size : ℕ
 
 abbrev pub span : ℕ → ℕ → Span
@@ -22,9 +20,9 @@ spans_of (word ∷ words) [] = []
 spans_of (word ∷ words) (size ∷ sizes) = span word size ∷ spans_of words sizes
 
 -- "offer to the store: position to 8,589,934,590, size to 4,294,967,295"
-abbrev pub offset_within : Offset → Bool
+abbrev pub offset_within : Option ℕ → Bool
 offset_within None = true
-offset_within (At o) = leb o max_offer
+offset_within (Some o) = leb o max_offer
 
 abbrev pub within : Span → Bool
 within s = pick (offset_within s.offset) (leb s.size max_position) false
@@ -40,9 +38,9 @@ acceptable words sizes = pick (eqb (length words) (length sizes)) (pick (leb (le
 
 -- "For blocks, spans are taken by offset, equal ones in their order": a stable sort. Those without offset, which are passed over,
 -- come first.
-abbrev pub rank : Offset → ℕ
+abbrev pub rank : Option ℕ → ℕ
 rank None = 0
-rank (At o) = suc o
+rank (Some o) = suc o
 
 abbrev pub rank_of : Span → ℕ
 rank_of s = rank s.offset

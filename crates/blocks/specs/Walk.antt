@@ -1,7 +1,5 @@
 -- Blocks: what a walk over the spans, taken by offset, joins and closes.
-use Rattle.std.specs.Prelude.{List, [], ◌∷◌, ◌++◌, ℕ, ◌+◌, eqb}
-use Rattle.prelude.specs.declared.Offset.{Offset}
-use Rattle.prelude.specs.declared.Offset.TheVariants.{None, At}
+use Rattle.std.specs.Prelude.{List, [], ◌∷◌, ◌++◌, ℕ, ◌+◌, eqb, Option, None, Some}
 use Rattle.prelude.specs.Pick.{pick}
 use Rattle.blocks.specs.declared.Block.{Block}
 use Rattle.blocks.specs.Spans.{Span, by_offset}
@@ -18,14 +16,14 @@ kept b = pick (eqb b.size 0) [] (b ∷ [])
 
 -- "a span whose offset is none is passed over. A span starting exactly at the running end joins; another closes the block." What a
 -- span closes,
-abbrev pub closed : Block → Offset → List Block
+abbrev pub closed : Block → Option ℕ → List Block
 closed b None = []
-closed b (At o) = pick (eqb o (end_of b)) [] (kept b)
+closed b (Some o) = pick (eqb o (end_of b)) [] (kept b)
 
 -- and the block that runs on after it.
-abbrev pub joined : Block → Offset → ℕ → Block
+abbrev pub joined : Block → Option ℕ → ℕ → Block
 joined b None size = b
-joined b (At o) size = pick (eqb o (end_of b)) (block b.origin (b.size + size)) (block o size)
+joined b (Some o) size = pick (eqb o (end_of b)) (block b.origin (b.size + size)) (block o size)
 
 unfoldable pub blocks_from : Block → List Span → List Block
 blocks_from b [] = kept b

@@ -11,20 +11,13 @@ ghost use Rattle.blocks.specs.Walk.{block, end_of, kept, closed, joined, blocks_
 ghost use Rattle.blocks.specs.Put.{Put};
 ghost use Rattle.blocks.specs.Outcome.{Written, Contract};
 
-use prelude::{MAX_OFFER, MAX_POSITION, Offset, Refusal};
+use prelude::{MAX_OFFER, MAX_POSITION, Refusal};
 
 // A run of bits in the output, running or written: the Rust's `BitVecBlock`, with its `current_origin` and `current_size`.
 #[derive(Clone, Copy)]
 pub struct Block {
     pub origin: u64,
     pub size: u64,
-}
-
-// How many blocks were written, or why none.
-#[derive(Clone, Copy)]
-pub enum Blocks {
-    Found(u64),
-    Refused(Refusal),
 }
 
 // As many spans as document 01 has nodes.
@@ -37,22 +30,22 @@ const BUFFER: u64 = 2;
 pub const NO_OFFSET: u64 = 18_446_744_073_709_551_615;
 
 // A span's offset, from the word that it is lent as.
-pub fn offset_of(word: u64) -> Offset
+pub fn offset_of(word: u64) -> Option<u64>
     ensures { OffsetIs word result }
 {
     if word == NO_OFFSET {
-        return Offset::None;
+        return None;
     }
-    Offset::At(word)
+    Some(word)
 }
 
 // The word for a span's offset.
-pub fn word_of(offset: Offset) -> u64
+pub fn word_of(offset: Option<u64>) -> u64
     ensures { WordIs offset result }
 {
     match offset {
-        Offset::None => NO_OFFSET,
-        Offset::At(o) => o,
+        None => NO_OFFSET,
+        Some(o) => o,
     }
 }
 
@@ -60,15 +53,9 @@ pub fn word_of(offset: Offset) -> u64
 fn is_within(word: u64, size: u64) -> bool
     ensures { result ≡ within (span word size) }
 {
-    let offset = offset_of(word);
-    match offset {
-        Offset::None => size <= MAX_POSITION,
-        Offset::At(o) => {
-            if MAX_OFFER < o {
-                return false;
-            }
-            size <= MAX_POSITION
-        }
+    match offset_of(word) {
+        None => size <= MAX_POSITION,
+        Some(o) => o <= MAX_OFFER && size <= MAX_POSITION,
     }
 }
 
@@ -77,25 +64,17 @@ fn all_within(offsets: &[u64], sizes: &[u64]) -> bool
     requires { length offsets.now ≡ length sizes.now }
     ensures { result ≡ all_within (spans_of offsets.now sizes.now) }
 {
-    for i in 0..offsets.len() {
-        if !is_within(offsets[i], sizes[i]) {
-            return false;
-        }
-    }
-    true
+    offsets
+        .iter()
+        .zip(sizes)
+        .all(|(&word, &size)| is_within(word, size))
 }
 
 // Whether spans are lent as document 01 has them: a size for each offset, at most 4,096, each within the limits.
 fn are_acceptable(offsets: &[u64], sizes: &[u64]) -> bool
     ensures { result ≡ acceptable offsets.now sizes.now }
 {
-    if offsets.len() != sizes.len() {
-        return false;
-    }
-    if MAX_SPANS < offsets.len() {
-        return false;
-    }
-    all_within(offsets, sizes)
+    offsets.len() == sizes.len() && offsets.len() <= MAX_SPANS && all_within(offsets, sizes)
 }
 
 // Stores a number at a place, if there is one.
@@ -145,7 +124,7 @@ impl Block {
         block_sizes: &mut [u64],
     ) -> usize
         requires { (count ≤ max_nodes) × (end_of self < 2 ^ 63) }
-        ensures { Put (closed self (Offset.At offset)) count
+        ensures { Put (closed self (Some offset)) count
             block_offsets.old block_sizes.old result block_offsets.new block_sizes.new }
     {
         if offset == self.end() {
@@ -157,7 +136,7 @@ impl Block {
     // The block that runs on after a span at an offset.
     fn join(self, offset: u64, size: u64) -> Block
         requires { (end_of self < 2 ^ 63) × (self.size + size < 2 ^ 63) }
-        ensures { result ≡ joined self (Offset.At offset) size }
+        ensures { result ≡ joined self (Some offset) size }
     {
         if offset == self.end() {
             Block {
@@ -188,10 +167,10 @@ fn walk(
 {
     let mut current = Block { origin: 0, size: 0 };
     let mut count = 0;
-    for i in 0..numbers.len() {
-        let place = numbers[i] as usize;
+    for &number in numbers {
+        let place = usize::from(number);
         // "a span whose offset is none is passed over"
-        let Offset::At(offset) = offset_of(offsets[place]) else {
+        let Some(offset) = offset_of(offsets[place]) else {
             continue;
         };
         count = current.close(offset, count, block_offsets, block_sizes);
@@ -214,7 +193,7 @@ fn write_blocks(
     sizes: &[u64],
     block_offsets: &mut [u64],
     block_sizes: &mut [u64],
-) -> Blocks
+) -> Result<u64, Refusal>
     requires { Walkable numbers.now offsets.now sizes.now }
     ensures { Written (numbered_blocks offsets.now sizes.now numbers.now)
         block_offsets.old block_sizes.old result block_offsets.new block_sizes.new }
@@ -226,14 +205,11 @@ fn write_blocks(
         &mut block_offsets[..0],
         &mut block_sizes[..0],
     );
-    if block_offsets.len() < count {
-        return Blocks::Refused(Refusal::TooShort(BUFFER));
-    }
-    if block_sizes.len() < count {
-        return Blocks::Refused(Refusal::TooShort(BUFFER));
+    if block_offsets.len() < count || block_sizes.len() < count {
+        return Err(Refusal::TooShort(BUFFER));
     }
     walk(numbers, offsets, sizes, block_offsets, block_sizes);
-    Blocks::Found(count as u64)
+    Ok(count as u64)
 }
 
 // Writes the blocks of spans that are as they should be, with room for their numbers.
@@ -243,13 +219,13 @@ fn sort_and_write(
     room: &mut [u16],
     block_offsets: &mut [u64],
     block_sizes: &mut [u64],
-) -> Blocks
+) -> Result<u64, Refusal>
     requires { (acceptable offsets.now sizes.now ≡ true) × (length offsets.now ≤ length room.old) }
     ensures { Written (blocks_of (spans_of offsets.now sizes.now))
         block_offsets.old block_sizes.old result block_offsets.new block_sizes.new }
 {
     let n = offsets.len();
-    sort::sort(offsets, &mut room[..n]);
+    let _ = sort::sort(offsets, &mut room[..n]);
     write_blocks(&room[..n], offsets, sizes, block_offsets, block_sizes)
 }
 
@@ -260,13 +236,13 @@ pub fn get_blocks(
     sizes: &[u64],
     block_offsets: &mut [u64],
     block_sizes: &mut [u64],
-) -> Blocks
+) -> Result<u64, Refusal>
     ensures { Contract offsets.now sizes.now block_offsets.old block_sizes.old result
         block_offsets.new block_sizes.new }
 {
     if !are_acceptable(offsets, sizes) {
-        return Blocks::Refused(Refusal::Malformed(0));
+        return Err(Refusal::Malformed(0));
     }
-    let mut room = [0u16; 4096];
+    let mut room = [0u16; MAX_SPANS];
     sort_and_write(offsets, sizes, &mut room, block_offsets, block_sizes)
 }

@@ -7,12 +7,17 @@ use lib.ListN.{length, set, length-set}
 use Rattle.bitvec.specs.Lists.{list_of}
 use Rattle.bitvec.specs.Laws.Lists.{list_of-more}
 use Rattle.blocks.specs.Offsets.{word_of}
+use Rattle.iter.specs.Step.{bank_after}
 use Rattle.iter.specs.declared.Walk.{Walk}
 use Rattle.nodes.specs.Kinds.{size_of}
 use Rattle.nodes.specs.Lists.{Row}
-use Rattle.resolver.specs.Once.{Program, walk_to}
+use Rattle.nodes.specs.declared.Node.{Node}
+use Rattle.prelude.specs.Limits.{max_banks}
+use Rattle.resolver.specs.Once.{Program, node, walk_to}
+use Rattle.resolver.specs.Switches.{Switches}
 use Rattle.resolver.specs.Walking.{Walks}
 use Rattle.build_visits.specs.declared.Visit.{Visit}
+use Rattle.build_visits.specs.Sights.{Comes}
 use Rattle.build_visits.specs.Visits.{position_of, visit_at}
 use Rattle.build_map.specs.Map.{bank_shown, position_shown, output_shown, size_shown, shown}
 
@@ -53,6 +58,13 @@ begins p row nodes e banks positions outputs sizes =
       given = filled_none (output_shown p row) outputs;
       sized = filled_none (size_shown p row) sizes;
     }
+
+module _ {p : Program} {row : Row} {nodes i : ℕ} {walk : Walk} {banks₀ positions₀ outputs₀ sizes₀ banks positions outputs sizes : List ℕ}
+    (g : Writing p row nodes i walk banks₀ positions₀ outputs₀ sizes₀ banks positions outputs sizes) where
+  -- the loop has come to node i of its row
+  pub comes : Switches p.banks.len p.kinds p.operands → length p.banks.defs ≡ max_banks → {n : Node} → n ≡ node p row i
+      → {b : ℕ} → b ≡ bank_after walk.bank n → Comes p row i walk b n
+  comes switches room met stands = record { switches = switches; room = room; walks = g.walks; met = met; stands = stands }
 
 module _ {p : Program} {row : Row} {nodes i : ℕ} {walk : Walk} {banks₀ positions₀ outputs₀ sizes₀ banks positions outputs sizes : List ℕ}
     (g : Writing p row nodes i walk banks₀ positions₀ outputs₀ sizes₀ banks positions outputs sizes)

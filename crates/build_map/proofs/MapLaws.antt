@@ -1,4 +1,5 @@
 -- From the passes to the map of their last row, and from it to the public answer.
+use Rattle.std.specs.Prelude.{Result, Err, Ok, None}
 use mathlib.Core.Path.{◌≡◌, refl, sym, ap, ap₂, subst, ◌∙◌}
 use mathlib.Core.Bool.{Bool}
 use mathlib.Core.List.{List}
@@ -8,6 +9,7 @@ use lib.ListN.{length, take, drop, replicate, length-set}
 use lib.Seq.{ext_get_or}
 use Rattle.prelude.specs.Limits.{max_banks, max_nodes}
 use Rattle.prelude.specs.Told.{told_verdict}
+use Rattle.prelude.specs.declared.Refusal.{Refusal}
 use Rattle.bankdef.specs.declared.Bankdefs.{Bankdefs}
 use Rattle.bitvec.specs.Lists.{list_of}
 use Rattle.iter.specs.Step.{no_lost, start_of, bank_after}
@@ -28,8 +30,6 @@ use Rattle.nodes.specs.Sound.{SoundLists}
 use Rattle.nodes.specs.Theorems.Sound.{accepted-lists}
 use Rattle.resolver.specs.declared.Choices.{Choices}
 use Rattle.resolver.specs.declared.Resolution.{Resolution}
-use Rattle.resolver.specs.declared.Settled.{Settled}
-use Rattle.resolver.specs.declared.Settled.TheVariants.{At, Refused as Unsettled}
 use Rattle.output.specs.Output.{Input, input, closed_of, visits_of, passes_of, settled_of}
 use Rattle.build_plan.specs.Laws.Plan.{length-of-banks, get_d-of-banks}
 use Rattle.build_plan.specs.Placing.{Placed, holds, stops, placed_all, walked_all}
@@ -37,7 +37,6 @@ use Rattle.build_map.specs.Map.{traced_by, settled_reach, paddings_to, map_by, m
 use Rattle.build_map.specs.Map.{bank_shown, position_shown, output_shown, size_shown, shown, left_by, Maps}
 use Rattle.build_map.specs.Theorems.Reached.{Seen, ran-checked, none-run, shown-sees, off-listed}
 use Rattle.build_map.specs.Steps.{Few, row_reach, RowMapped, verdict_of, mapless}
-use Rattle.build_map.specs.declared.Fault.TheVariants.{None}
 use Rattle.build_map.specs.declared.Map.{Map}
 use Rattle.build_map.specs.declared.Reach.{Reach}
 
@@ -74,10 +73,10 @@ placed-told : (walked : ℕ) (q : Placed) → told_verdict (traced_by walked q).
 placed-told walked (holds stored) = refl
 placed-told walked (stops why) = refl
 
-settled-told : (b : Input) (n : ℕ) (s : Settled)
+settled-told : (b : Input) (n : ℕ) (s : Result ℕ Refusal)
     → told_verdict (settled_reach (closed_of b) (visits_of b (passes_of b)) n s).verdict ≡ settled_told b s
-settled-told b n (Unsettled why) = refl
-settled-told b n (At k) = let vs = visits_of b (passes_of b) in placed-told (walked_all (closed_of b) vs) (placed_all (closed_of b) vs)
+settled-told b n (Err why) = refl
+settled-told b n (Ok k) = let vs = visits_of b (passes_of b) in placed-told (walked_all (closed_of b) vs) (placed_all (closed_of b) vs)
 
 map-told : (b : Input) → told_verdict (map_of b).verdict ≡ settled_told b (settled_of b)
 unfolding map_of
@@ -85,7 +84,7 @@ map-told b = settled-told b (length b.lists.kinds) (settled_of b)
 
 -- ---- a row's map, from its parts
 
-pub row-mapped : (p : Program) (row : Row) (closed : Bool) (settled : Settled) (passes : ℕ) (banks positions outputs sizes : List ℕ) (reach : Reach)
+pub row-mapped : (p : Program) (row : Row) (closed : Bool) (settled : Result ℕ Refusal) (passes : ℕ) (banks positions outputs sizes : List ℕ) (reach : Reach)
     → reach ≡ row_reach p row closed settled → (lost : List Lost) → lost ≡ (walk_to p row reach.nodes).lost → (banks' positions' outputs' sizes' : List ℕ)
     → banks' ≡ shown reach.nodes (bank_shown p row) banks
     → positions' ≡ shown reach.nodes (position_shown p row) positions
@@ -166,9 +165,9 @@ module _ (banks : Bankdefs) (l : Lists) (m : Choices) (r : Resolution) (resolves
     pub ran-listed : Few r.settled
     ran-listed = by r.settled (sym (ap (λ (q : Resolution). q.settled) resolves))
       where
-        by : (s : Settled) → settled_of given ≡ s → Few s
-        by (At k) e = tt
-        by (Unsettled why) e = λ seven. (let h = off-listed given why e seven in let f = ran-few in omega arith)
+        by : (s : Result ℕ Refusal) → settled_of given ≡ s → Few s
+        by (Ok k) e = tt
+        by (Err why) e = λ seven. (let h = off-listed given why e seven in let f = ran-few in omega arith)
 
     module _ (start : ℕ) (starts : start ≡ (min r.passes l.rows - 1) * length l.kinds) (closed : Bool) (closes : closed ≡ closed_of given) where
       abbrev parted : Program

@@ -1,14 +1,13 @@
 -- The map of a layout: where each node stands in the row of the last pass, as far as the layout goes, and the node at which it is refused. Document 01:
 -- "Then each pass in node order meets 5, 6 and 7, and 8 at its end. The build walks the nodes and tries 9, 10, 11, 12, 13 at each."
-use Rattle.std.specs.Prelude.{◌≡◌, Bool, List, ◌++◌, ℕ, suc, ◌-◌, eqb, length, drop}
+use Rattle.std.specs.Prelude.{◌≡◌, Bool, List, ◌++◌, ℕ, suc, ◌-◌, eqb, length, drop, None, Some, Err, Option, Result, Ok}
 use Rattle.prelude.specs.Pick.{pick}
 use Rattle.prelude.specs.Refusals.{number_of, place_of}
 use Rattle.prelude.specs.Told.{Told, gives, Nothing, nothing, told_refusal, told_verdict}
 use Rattle.prelude.specs.declared.Place.{Place}
 use Rattle.prelude.specs.declared.Place.TheVariants.{One, Two}
 use Rattle.prelude.specs.declared.Refusal.{Refusal}
-use Rattle.prelude.specs.declared.Verdict.{Verdict}
-use Rattle.prelude.specs.declared.Verdict.TheVariants.{Accepted, Refused}
+use Rattle.prelude.specs.Verdict.{Accepted, Verdict}
 use Rattle.bitvec.specs.Lists.{list_of}
 use Rattle.blocks.specs.Offsets.{word_of}
 use Rattle.iter.specs.declared.Lost.{Lost}
@@ -17,15 +16,11 @@ use Rattle.nodes.specs.Lists.{Row}
 use Rattle.resolver.specs.Once.{Program}
 use Rattle.resolver.specs.Padding.{padding_to}
 use Rattle.resolver.specs.Passes.{program, row_of_pass}
-use Rattle.resolver.specs.declared.Settled.{Settled}
-use Rattle.resolver.specs.declared.Settled.TheVariants.{At, Refused as Unsettled}
 use Rattle.build_visits.specs.Visits.{position_of, visit_at}
 use Rattle.build_plan.specs.Placing.{Placed, holds, stops, placed_all, walked_all}
 use Rattle.build_plan.specs.Plan.{of_banks}
 use Rattle.output.specs.Output.{Input, closed_of, visits_of, passes_of, settled_of}
 use Rattle.build_visits.specs.declared.Visit.{Visit}
-use Rattle.build_map.specs.declared.Fault.{Fault}
-use Rattle.build_map.specs.declared.Fault.TheVariants.{None, At as AtNode}
 use Rattle.build_map.specs.declared.Reach.{Reach}
 use Rattle.build_map.specs.declared.Map.{Map}
 
@@ -36,11 +31,11 @@ whole_reach n = record { verdict = Accepted; nodes = n; fault = None }
 
 -- refused at the last of so many nodes
 abbrev pub stopped_reach : Verdict → ℕ → Reach
-stopped_reach verdict walked = record { verdict = verdict; nodes = walked; fault = AtNode (walked - 1) }
+stopped_reach verdict walked = record { verdict = verdict; nodes = walked; fault = Some (walked - 1) }
 
 abbrev pub traced_by : ℕ → Placed → Reach
 traced_by walked (holds stored) = whole_reach walked
-traced_by walked (stops why) = stopped_reach (Refused why) walked
+traced_by walked (stops why) = stopped_reach (Err why) walked
 
 -- "The build walks the nodes and tries 9, 10, 11, 12, 13 at each": all nodes, or those up to and with the one at which it is refused
 abbrev pub traced : Bool → List Visit → Reach
@@ -64,15 +59,15 @@ nodes_met n why =
     (pick (eqb (number_of why) 7) (suc (node_of why))
     (pick (eqb (number_of why) 8) n 0))
 
-abbrev pub fault_met : Refusal → Fault
-fault_met why = pick (eqb (number_of why) 5) (AtNode (node_of why)) (pick (eqb (number_of why) 7) (AtNode (node_of why)) None)
+abbrev pub fault_met : Refusal → Option ℕ
+fault_met why = pick (eqb (number_of why) 5) (Some (node_of why)) (pick (eqb (number_of why) 7) (Some (node_of why)) None)
 
 abbrev pub met_reach : ℕ → Refusal → Reach
-met_reach n why = record { verdict = Refused why; nodes = nodes_met n why; fault = fault_met why }
+met_reach n why = record { verdict = Err why; nodes = nodes_met n why; fault = fault_met why }
 
-abbrev pub settled_reach : Bool → List Visit → ℕ → Settled → Reach
-settled_reach closed vs n (Unsettled why) = met_reach n why
-settled_reach closed vs n (At k) = traced closed vs
+abbrev pub settled_reach : Bool → List Visit → ℕ → Result ℕ Refusal → Reach
+settled_reach closed vs n (Err why) = met_reach n why
+settled_reach closed vs n (Ok k) = traced closed vs
 
 -- ---- the answer
 
@@ -99,9 +94,9 @@ placed_told (stops why) = told_refusal why
 placed_told (holds stored) = gives nothing
 
 -- 1 to 8 are told by the passes, 9 to 13 by the first node that is refused
-abbrev pub settled_told : Input → Settled → Told Nothing
-settled_told b (Unsettled why) = told_refusal why
-settled_told b (At k) = placed_told (placed_all (closed_of b) (visits_of b (passes_of b)))
+abbrev pub settled_told : Input → Result ℕ Refusal → Told Nothing
+settled_told b (Err why) = told_refusal why
+settled_told b (Ok k) = placed_told (placed_all (closed_of b) (visits_of b (passes_of b)))
 
 -- ---- what is lent
 

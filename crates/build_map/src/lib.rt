@@ -4,33 +4,27 @@
 
 mod entries;
 mod maps;
+mod rows;
 mod tracing;
 
 use iter::Lost;
 pub use maps::map_nodes;
-use prelude::Verdict;
-
-// The node at which a layout is refused, where it is refused at one.
-#[derive(Clone, Copy)]
-pub enum Fault {
-    None,
-    At(u64),
-}
+use prelude::Refusal;
 
 // How far a map goes: the layout's verdict, how many nodes have entries, from node 0 on, and the node at fault.
 #[derive(Clone, Copy)]
 pub struct Reach {
-    pub verdict: Verdict,
+    pub verdict: Result<(), Refusal>,
     pub nodes: u64,
-    pub fault: Fault,
+    pub fault: Option<u64>,
 }
 
 // What a map answers: that, the passes run, and what the nodes that have entries lost to alignment in each bank, banks 0 to 15.
 #[derive(Clone, Copy)]
 pub struct Map {
-    pub verdict: Verdict,
+    pub verdict: Result<(), Refusal>,
     pub passes: u64,
     pub nodes: u64,
-    pub fault: Fault,
+    pub fault: Option<u64>,
     pub padding: [Lost; 16],
 }

@@ -1,36 +1,25 @@
 // The map: the passes, then how far the row of the last one goes, then the entries.
 ghost use Rattle.std.specs.Prelude.{◌≡◌, ◌≤◌, ◌<◌, length};
-ghost use Rattle.resolver.specs.Once.{program_with};
 ghost use Rattle.resolver.specs.Switches.{Switches};
 ghost use Rattle.prelude.specs.Limits.{max_nodes};
 ghost use Rattle.prelude.specs.Refusals.{number_of};
-ghost use Rattle.nodes.specs.Lists.{lists, row_with};
+ghost use Rattle.nodes.specs.Lists.{lists};
 ghost use Rattle.output.specs.Output.{input};
-ghost use Rattle.build_map.specs.Map.{node_of, met_reach, first_in, lent, Maps};
-ghost use Rattle.build_map.specs.Steps.{Few, row_reach, RowMapped, verdict_of, mapless};
+ghost use Rattle.build_map.specs.Map.{node_of, met_reach, lent, Maps};
+ghost use Rattle.build_map.specs.Steps.{program_of, row_of, Few, row_reach, RowMapped, verdict_of, mapless};
 
-use crate::entries::write_entries;
-use crate::tracing::trace_row;
-use crate::{Fault, Map, Reach};
+use crate::rows::LastRow;
+use crate::{Map, Reach};
 use bankdef::Bankdefs;
 use iter::Lost;
-use prelude::{Place, Refusal, Verdict};
-use resolver::{Choices, Settled};
+use prelude::Refusal;
+use resolver::Choices;
 
-fn first_in(place: Place) -> u64
-    ensures { result ≡ first_in place }
-{
-    match place {
-        Place::One(p) => p,
-        Place::Two(p, _) => p,
-    }
-}
-
-fn reach(why: Refusal, nodes: u64, fault: Fault) -> Reach
-    ensures { result ≡ record { verdict = Verdict.Refused why; nodes = nodes; fault = fault } }
+fn reach(why: Refusal, nodes: u64, fault: Option<u64>) -> Reach
+    ensures { result ≡ record { verdict = Err why; nodes = nodes; fault = fault } }
 {
     Reach {
-        verdict: Verdict::Refused(why),
+        verdict: Err(why),
         nodes,
         fault,
     }
@@ -41,107 +30,70 @@ fn met(why: Refusal, n: u64) -> Reach
     requires { number_of why ≡ 7 → node_of why < max_nodes }
     ensures { result ≡ met_reach n why }
 {
-    let number = prelude::number(why);
-    let node = first_in(prelude::place_of(why));
-    if number == 5 {
-        return reach(why, node, Fault::At(node));
-    }
-    if number == 7 {
-        return reach(why, node + 1, Fault::At(node));
-    }
-    if number == 8 {
-        return reach(why, n, Fault::None);
-    }
-    reach(why, 0, Fault::None)
-}
-
-// How far the nodes of the last row go.
-fn reach_row(
-    banks: Bankdefs,
-    kinds: &[u8],
-    operands: &[u32],
-    first: &[u32],
-    numbers: &[u32],
-    states: &[u8],
-    closed: bool,
-    settled: Settled,
-) -> Reach
-    requires kinds_len_bound { (length kinds.now ≤ max_nodes) × Switches banks.len kinds.now operands.now }
-    requires few { Few settled }
-    ensures { result ≡ row_reach (program_with banks kinds.now operands.now first.now)
-        (row_with numbers.now states.now) closed settled }
-{
-    match settled {
-        Settled::Refused(why) => met(why, kinds.len() as u64),
-        Settled::At(_) => trace_row(banks, kinds, operands, first, numbers, states, closed),
+    match why {
+        Refusal::PositionPast(node) => reach(why, node, Some(node)),
+        Refusal::LabelOffBoundary(node) => reach(why, node + 1, Some(node)),
+        Refusal::Unresolved => reach(why, n, None),
+        _ => reach(why, 0, None),
     }
 }
 
-// The map over the row of the last pass.
-fn map_row(
-    banks: Bankdefs,
-    kinds: &[u8],
-    operands: &[u32],
-    first: &[u32],
-    numbers: &[u32],
-    states: &[u8],
-    closed: bool,
-    settled: Settled,
-    passes: u64,
-    banks_of: &mut [u64],
-    positions: &mut [u32],
-    outputs: &mut [u64],
-    sizes: &mut [u32],
-) -> Map
-    requires kinds_len_bound { (length kinds.now ≤ max_nodes) × Switches banks.len kinds.now operands.now }
-    requires few { Few settled }
-    requires banks_of_len { (length banks_of.old ≡ max_nodes) × (length positions.old ≡ max_nodes) × (length outputs.old ≡ max_nodes)
-        × (length sizes.old ≡ max_nodes) }
-    requires settled_bound { (row_reach (program_with banks kinds.now operands.now first.now) (row_with numbers.now states.now) closed settled).nodes ≤ max_nodes }
-    ensures { RowMapped (program_with banks kinds.now operands.now first.now)
-        (row_with numbers.now states.now) closed settled passes
-        (lent banks_of.old positions.old outputs.old sizes.old) result
-        (lent banks_of.new positions.new outputs.new sizes.new) }
-{
-    let reach = reach_row(
-        banks, kinds, operands, first, numbers, states, closed, settled,
-    );
-    let verdict = reach.verdict;
-    let nodes = reach.nodes;
-    let fault = reach.fault;
-    let padding = write_entries(
-        banks,
-        kinds,
-        operands,
-        first,
-        numbers,
-        states,
-        nodes as usize,
-        banks_of,
-        positions,
-        outputs,
-        sizes,
-    );
-    Map {
-        verdict,
-        passes,
-        nodes,
-        fault,
-        padding,
+impl LastRow<'_> {
+    // How far the nodes of the last row go.
+    fn reach(self, closed: bool, settled: Result<u64, Refusal>) -> Reach
+        requires kinds_len_bound { (length self.kinds.now ≤ max_nodes) × Switches self.banks.len self.kinds.now self.operands.now }
+        requires few { Few settled }
+        ensures { result ≡ row_reach (program_of self.entry) (row_of self.entry) closed settled }
+    {
+        match settled {
+            Err(why) => met(why, self.kinds.len() as u64),
+            Ok(_) => self.trace(closed),
+        }
+    }
+
+    // The map over the row of the last pass.
+    fn map(
+        self,
+        closed: bool,
+        settled: Result<u64, Refusal>,
+        passes: u64,
+        banks_of: &mut [u64],
+        positions: &mut [u32],
+        outputs: &mut [u64],
+        sizes: &mut [u32],
+    ) -> Map
+        requires kinds_len_bound { (length self.kinds.now ≤ max_nodes) × Switches self.banks.len self.kinds.now self.operands.now }
+        requires few { Few settled }
+        requires banks_of_len { (length banks_of.old ≡ max_nodes) × (length positions.old ≡ max_nodes) × (length outputs.old ≡ max_nodes)
+            × (length sizes.old ≡ max_nodes) }
+        requires settled_bound { (row_reach (program_of self) (row_of self) closed settled).nodes ≤ max_nodes }
+        ensures { RowMapped (program_of self.entry) (row_of self.entry) closed settled passes
+            (lent banks_of.old positions.old outputs.old sizes.old) result
+            (lent banks_of.new positions.new outputs.new sizes.new) }
+    {
+        let reach = self.reach(closed, settled);
+        let padding = self.write_entries(reach.nodes as usize, banks_of, positions, outputs, sizes);
+        Map {
+            verdict: reach.verdict,
+            passes,
+            nodes: reach.nodes,
+            fault: reach.fault,
+            padding,
+        }
     }
 }
 
-fn verdict_of(settled: Settled) -> Verdict
+fn verdict_of(settled: Result<u64, Refusal>) -> Result<(), Refusal>
     ensures { result ≡ verdict_of settled }
 {
     match settled {
-        Settled::Refused(why) => Verdict::Refused(why),
-        Settled::At(_) => Verdict::Accepted,
+        Err(why) => Err(why),
+        Ok(_) => Ok(()),
     }
 }
 
 // Where no pass was run: nothing is shown.
-fn unmapped(settled: Settled) -> Map
+fn unmapped(settled: Result<u64, Refusal>) -> Map
     ensures { result ≡ mapless settled }
 {
     let none = Lost { bits: 0, units: 0 };
@@ -149,7 +101,7 @@ fn unmapped(settled: Settled) -> Map
         verdict: verdict_of(settled),
         passes: 0,
         nodes: 0,
-        fault: Fault::None,
+        fault: None,
         padding: [none; 16],
     }
 }
@@ -189,19 +141,13 @@ pub fn map_nodes(
     let a = output::row_start(rows, passes, n);
     let e = a + n;
     let closed = build_plan::closes_default(banks.len, choices.closed);
-    map_row(
+    let row = LastRow {
         banks,
         kinds,
         operands,
-        &numbers[0..n],
-        &numbers[a..e],
-        &states[a..e],
-        closed,
-        settled,
-        passes,
-        banks_of,
-        positions,
-        outputs,
-        sizes,
-    )
+        first: &numbers[0..n],
+        numbers: &numbers[a..e],
+        states: &states[a..e],
+    };
+    row.map(closed, settled, passes, banks_of, positions, outputs, sizes)
 }

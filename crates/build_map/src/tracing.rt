@@ -1,58 +1,57 @@
 // How far the nodes of a row go: the build's own first walk tells it.
 ghost use Rattle.std.specs.Prelude.{◌≡◌, ◌≤◌, length};
 ghost use Rattle.prelude.specs.Limits.{max_nodes};
-ghost use Rattle.resolver.specs.Once.{program_with};
 ghost use Rattle.resolver.specs.Switches.{Switches};
-ghost use Rattle.nodes.specs.Lists.{row_with};
 ghost use Rattle.build_visits.specs.Visits.{visits};
+ghost use Rattle.build_map.specs.Steps.{program_of, row_of};
 ghost use Rattle.build_map.specs.Map.{traced, whole_reach, stopped_reach};
 
-use crate::{Fault, Reach};
-use bankdef::Bankdefs;
+use crate::Reach;
+use crate::rows::LastRow;
 use build_plan::meet_row;
-use prelude::{Refusal, Verdict};
+use prelude::Refusal;
 
 fn whole(n: u64) -> Reach
     ensures { result ≡ whole_reach n }
 {
     Reach {
-        verdict: Verdict::Accepted,
+        verdict: Ok(()),
         nodes: n,
-        fault: Fault::None,
+        fault: None,
     }
 }
 
 // A node that is refused has an entry too: it is the last of those that are met.
 fn stopped(why: Refusal, met: u64) -> Reach
     requires { 1 ≤ met }
-    ensures { result ≡ stopped_reach (Verdict.Refused why) met }
+    ensures { result ≡ stopped_reach (Err why) met }
 {
     Reach {
-        verdict: Verdict::Refused(why),
+        verdict: Err(why),
         nodes: met,
-        fault: Fault::At(met - 1),
+        fault: Some(met - 1),
     }
 }
 
-// How far the nodes of a row can be placed one after another. `closed` says whether bank 0 is.
-pub(crate) fn trace_row(
-    banks: Bankdefs,
-    kinds: &[u8],
-    operands: &[u32],
-    first: &[u32],
-    numbers: &[u32],
-    states: &[u8],
-    closed: bool,
-) -> Reach
-    requires kinds_len_bound { length kinds.now ≤ max_nodes }
-    requires switches { Switches banks.len kinds.now operands.now }
-    ensures { result ≡ traced closed (visits (program_with banks kinds.now operands.now first.now)
-        (row_with numbers.now states.now)) }
-{
-    let met = meet_row(banks, kinds, operands, first, numbers, states, closed);
-    let verdict = met.verdict;
-    match verdict {
-        Verdict::Accepted => whole(met.nodes),
-        Verdict::Refused(why) => stopped(why, met.nodes),
+impl LastRow<'_> {
+    // How far the nodes of a row can be placed one after another. `closed` says whether bank 0 is.
+    pub(crate) fn trace(self, closed: bool) -> Reach
+        requires kinds_len_bound { length self.kinds.now ≤ max_nodes }
+        requires switches { Switches self.banks.len self.kinds.now self.operands.now }
+        ensures { result ≡ traced closed (visits (program_of self.entry) (row_of self.entry)) }
+    {
+        let met = meet_row(
+            self.banks,
+            self.kinds,
+            self.operands,
+            self.first,
+            self.numbers,
+            self.states,
+            closed,
+        );
+        match met.verdict {
+            Ok(()) => whole(met.nodes),
+            Err(why) => stopped(why, met.nodes),
+        }
     }
 }

@@ -1,9 +1,9 @@
 -- The build in the profile, return by return.
+use Rattle.std.specs.Prelude.{Err}
 use Prim.Native.Nat.{ℕ}
 use mathlib.Core.Path.{◌≡◌, refl, sym, ap, ◌∙◌}
 use Rattle.prelude.specs.declared.Refusal.{Refusal}
-use Rattle.prelude.specs.declared.Verdict.{Verdict}
-use Rattle.prelude.specs.declared.Verdict.TheVariants.{Accepted, Refused}
+use Rattle.prelude.specs.Verdict.{Verdict, Accepted}
 use Rattle.bankdef.specs.Check.{check_of}
 use Rattle.resolver.specs.Layout.{Checked}
 use Rattle.nodes.specs.Lists.{lists_of, first_of}
@@ -19,7 +19,7 @@ use Rattle.build_paged.specs.InProfile.{InProfileTold, table, lists, off, on, Bu
 
 paged-verdict : (v : Verdict) (b : Input) (page : ℕ) → (paged_by v page b.banks).verdict ≡ v
 paged-verdict Accepted b page = refl
-paged-verdict (Refused why) b page = refl
+paged-verdict (Err why) b page = refl
 
 -- the verdict of the profile's answer
 pub verdict-is : (page : ℕ) (b : Input) {r : Paged} → r ≡ profile_of b.banks b.lists b.choices.fill page → r.verdict ≡ said_of page b
@@ -29,7 +29,7 @@ module _ (page : ℕ) (b : Input) (room : Room) where
   -- what is told by a verdict
   abbrev ToldBy : Verdict → Type 0
   ToldBy Accepted = InProfileTold page b room (settled_told b room (settled_of b))
-  ToldBy (Refused why) = InProfileTold page b room (told_build (refused_after 0 why).build)
+  ToldBy (Err why) = InProfileTold page b room (told_build (refused_after 0 why).build)
 
   by-rules : Checked b.banks b.lists b.choices.fill → {v : Verdict} → Judged b.banks b.lists page v → ToldBy v
   by-rules c (keeps h) = on c h
@@ -38,23 +38,23 @@ module _ (page : ℕ) (b : Input) (room : Room) where
   by-lists : check_of b.banks ≡ Accepted → (v : Verdict) → lists_of b.banks.len b.lists b.choices.fill ≡ v
       → ToldBy (first_of v (rules_of b.banks b.lists page))
   by-lists t Accepted e = by-rules (record { table = t; lists = e }) (judged b.banks b.lists page)
-  by-lists t (Refused why) e = lists why t e
+  by-lists t (Err why) e = lists why t e
 
   by-table : (v : Verdict) → check_of b.banks ≡ v
       → ToldBy (first_of v (first_of (lists_of b.banks.len b.lists b.choices.fill) (rules_of b.banks b.lists page)))
   by-table Accepted e = by-lists e (lists_of b.banks.len b.lists b.choices.fill) refl
-  by-table (Refused why) e = table why e
+  by-table (Err why) e = table why e
 
   tells : ToldBy (said_of page b)
   unfolding verdict_of
   tells = by-table (check_of b.banks) refl
 
 module _ (page : ℕ) (b : Input) (old : Lent) where
-  pub says-no : {v : Verdict} {why : Refusal} {r : Output} → v ≡ said_of page b → v ≡ Refused why → r ≡ refused_after 0 why
+  pub says-no : {v : Verdict} {why : Refusal} {r : Output} → v ≡ said_of page b → v ≡ Err why → r ≡ refused_after 0 why
       → BuildsInProfile page b old r old
   unfolding built_in_profile
   says-no {v} {why} {r} e f q =
-      let g : said_of page b ≡ Refused why = sym e ∙ f in
+      let g : said_of page b ≡ Err why = sym e ∙ f in
       rw q (record {
         result = ap (λ (x : Verdict). after_yes x (built_of b old) old) (sym g);
         figures = rw g at (tells page b (room_of old));

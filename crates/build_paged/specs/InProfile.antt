@@ -1,10 +1,9 @@
 -- A build in the profile (document 02, Ticket 9): its answer, and what stands in everything lent afterwards.
-use Rattle.std.specs.Prelude.{ℕ, ◌≡◌}
+use Rattle.std.specs.Prelude.{ℕ, ◌≡◌, Err}
 use Rattle.prelude.specs.Told.{Told, refuses, told_refusal}
 use Rattle.prelude.specs.declared.Place.TheVariants.{Two}
 use Rattle.prelude.specs.declared.Refusal.{Refusal}
-use Rattle.prelude.specs.declared.Verdict.{Verdict}
-use Rattle.prelude.specs.declared.Verdict.TheVariants.{Accepted, Refused}
+use Rattle.prelude.specs.Verdict.{Verdict, Accepted}
 use Rattle.bankdef.specs.Check.{check_of}
 use Rattle.resolver.specs.Layout.{Checked}
 use Rattle.nodes.specs.Lists.{lists_of}
@@ -36,15 +35,15 @@ said_of page b = verdict_of b.banks b.lists b.choices.fill page
 -- changes nothing lent".
 abbrev pub after_yes : Verdict → Outcome → Lent → Outcome
 after_yes Accepted built old = built
-after_yes (Refused why) built old = outcome (refused_after 0 why) old
+after_yes (Err why) built old = outcome (refused_after 0 why) old
 
 unfoldable pub built_in_profile : ℕ → Input → Lent → Outcome
 built_in_profile page b old = after_yes (said_of page b) (built_of b old) old
 
 -- What is told, in figures: a refusal of the table or of the lists; 19 with the rule and its bank or node; or what the ordinary build tells.
 pub data InProfileTold (page : ℕ) (b : Input) (room : Room) : Told Figures → Type 0 where
-  table : (why : Refusal) → check_of b.banks ≡ Refused why → InProfileTold page b room (told_refusal why)
-  lists : (why : Refusal) → check_of b.banks ≡ Accepted → lists_of b.banks.len b.lists b.choices.fill ≡ Refused why
+  table : (why : Refusal) → check_of b.banks ≡ Err why → InProfileTold page b room (told_refusal why)
+  lists : (why : Refusal) → check_of b.banks ≡ Accepted → lists_of b.banks.len b.lists b.choices.fill ≡ Err why
       → InProfileTold page b room (told_refusal why)
   off : {rule at : ℕ} → Checked b.banks b.lists b.choices.fill → Breaks b.banks b.lists page rule at
       → InProfileTold page b room (refuses 19 (Two rule at))

@@ -1,7 +1,6 @@
 -- Builds of layouts that keep the profile, and pages: every written bit stands in one of its bank's pages; with full fill over every bank that
 -- has an offset, the image's length is whole pages.
-use Rattle.std.specs.Prelude.{ℕ, ◌+◌, ◌<◌, ◌≤◌, ◌≡◌}
-use Rattle.prelude.specs.declared.Opt.TheVariants.{Some}
+use Rattle.std.specs.Prelude.{ℕ, ◌+◌, ◌<◌, ◌≤◌, ◌≡◌, Some}
 use Rattle.bankdef.specs.declared.Bankdefs.{Bankdefs}
 use Rattle.resolver.specs.Once.{bank_record}
 use Rattle.output.specs.Calls.{Accepted, nodes_in, visit_in}

@@ -1,6 +1,5 @@
 -- A layout in the profile whose image is not whole pages: nothing is filled. A page of 16 bits, a bank of 16 bits at offset 0, an item of 3 bits.
-use Rattle.std.specs.Prelude.{Bool, false, [], ◌∷◌, pos, replicate}
-use Rattle.prelude.specs.declared.Opt.TheVariants.{None, Some}
+use Rattle.std.specs.Prelude.{Bool, false, [], ◌∷◌, pos, replicate, None, Some}
 use Rattle.bankdef.specs.Check.{no_bank}
 use Rattle.bankdef.specs.declared.Bankdefs.{Bankdefs}
 use Rattle.nodes.specs.Lists.{lists}

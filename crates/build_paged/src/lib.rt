@@ -9,8 +9,8 @@ ghost use Rattle.build_paged.specs.InProfile.{BuildsInProfile};
 use bankdef::Bankdefs;
 use build_profile::check_profile;
 use iter::Lost;
-use output::{Build, Output, build_output};
-use prelude::{Refusal, Verdict};
+use output::{Output, build_output};
+use prelude::Refusal;
 use resolver::Choices;
 
 // Refused before the first pass: no pass is run.
@@ -19,7 +19,7 @@ fn refused(why: Refusal) -> Output
 {
     let none = Lost { bits: 0, units: 0 };
     Output {
-        build: Build::Refused(why),
+        build: Err(why),
         passes: 0,
         padding: [none; 16],
     }
@@ -52,10 +52,9 @@ pub fn build_in_profile(
     let paged = check_profile(
         banks, kinds, operands, numbers, states, rows, values, choices, page,
     );
-    let verdict = paged.verdict;
-    match verdict {
-        Verdict::Refused(why) => refused(why),
-        Verdict::Accepted => build_output(
+    match paged.verdict {
+        Err(why) => refused(why),
+        Ok(()) => build_output(
             banks, kinds, operands, numbers, states, rows, values, choices, image, addresses,
             offsets, sizes,
         ),

@@ -1,15 +1,14 @@
 -- The walk carries each bank's padding: at the end of a row whose nodes were all placed its sums are those of the definition.
-use mathlib.Core.Path.{◌≡◌, refl, sym, ap, ◌∙◌}
+use Rattle.std.specs.Prelude.{Ok}
+use mathlib.Core.Path.{◌≡◌, refl, sym, ◌∙◌}
 use mathlib.Core.Bool.{Bool}
-use mathlib.Core.List.{List}
 use Prim.Native.Nat.{ℕ, zero, suc, ◌≤◌, ◌<◌}
 use native.Mathlib.Omega.{arith}
-use lib.ListN.{length, get_or, length-set}
+use lib.ListN.{length, length-set}
 use lib.Seq.{ext_get_or}
 use Rattle.prelude.specs.Limits.{max_banks, max_nodes}
 use Rattle.iter.specs.Step.{no_lost, start_of, bank_after}
 use Rattle.iter.specs.Laws.StepCases.{step-cases}
-use Rattle.iter.specs.declared.Moved.TheVariants.{To}
 use Rattle.iter.specs.declared.Pos.{Pos}
 use Rattle.iter.specs.declared.Stepped.{Stepped}
 use Rattle.nodes.specs.Lists.{Row}
@@ -37,7 +36,7 @@ module _ (p : Program) (row : Row) where
       ∙ sixteen i
 
   -- a node that was placed sees a position
-  sees : (closed : Bool) (s : State) → placed_all closed (visits p row) ≡ holds s → (j : ℕ) → j < length p.kinds → (now : Pos) × (seen_at p row j ≡ To now)
+  sees : (closed : Bool) (s : State) → placed_all closed (visits p row) ≡ holds s → (j : ℕ) → j < length p.kinds → (now : Pos) × (seen_at p row j ≡ Ok now)
   sees closed s placed j h =
       let (t, acc) = each-accepted closed empty_state s (visits p row) placed (visit-member p row (length p.kinds) j h) in
       let seen = seen-placing closed t (visit_at p row j) (visit_at p row j).seen acc in

@@ -1,36 +1,36 @@
 -- The first walk from node to node: what a node that is accepted hands on, what one that is refused settles, and the end.
+use Rattle.std.specs.Prelude.{Err}
 use mathlib.Core.Path.{◌≡◌, refl, sym, ap, subst, ◌∙◌}
 use mathlib.Core.Bool.{Bool, true, false}
-use mathlib.Core.List.{List, [], ◌∷◌, ◌++◌}
+use mathlib.Core.List.{[], ◌∷◌, ◌++◌}
 use Prim.Native.Nat.{ℕ, suc, ◌+◌, ◌≤◌, ◌<◌}
 use native.Mathlib.Numerals.{add-one}
 use native.Mathlib.Omega.{arith}
 use lib.ListN.{length, replicate, length-append, length-replicate}
-use Rattle.prelude.specs.Limits.{max_offer, max_nodes}
+use Rattle.prelude.specs.Limits.{max_banks, max_offer, max_nodes}
 use Rattle.prelude.specs.Pick.{pick}
 use Rattle.prelude.specs.declared.Refusal.{Refusal}
-use Rattle.prelude.specs.declared.Verdict.{Verdict}
-use Rattle.prelude.specs.declared.Verdict.TheVariants.{Accepted, Refused}
-use Rattle.iter.specs.Step.{start_of}
+use Rattle.prelude.specs.Verdict.{Verdict, Accepted}
+use Rattle.iter.specs.Step.{start_of, bank_after}
 use Rattle.iter.specs.declared.Walk.{Walk}
 use Rattle.nodes.specs.Lists.{Row}
-use Rattle.resolver.specs.Once.{Program, walk_to}
+use Rattle.nodes.specs.declared.Node.{Node}
+use Rattle.resolver.specs.Once.{Program, node, walk_to}
 use Rattle.resolver.specs.Laws.Walking.{walks-start}
 use Rattle.resolver.specs.Switches.{Switches}
 use Rattle.resolver.specs.Walking.{Walks}
-use Rattle.overlap_checker.specs.State.{State, empty_state}
+use Rattle.overlap_checker.specs.State.{empty_state}
 use Rattle.overlap_checker.specs.Folds.{state_after}
 use Rattle.overlap_checker.specs.Lent.{Lent as Store, lent as store, state_in, Sound}
 use Rattle.overlap_checker.proofs.GoingLaws.{state-none}
 use Rattle.overlap_checker.proofs.Going.{sound_none}
-use Rattle.overlap_checker.specs.declared.Offered.{Offered}
 use Rattle.build_visits.specs.declared.Visit.{Visit}
+use Rattle.build_visits.specs.Sights.{Comes}
 use Rattle.build_visits.specs.Visits.{visit_at, visits_to, visits}
 use Rattle.build_visits.specs.Laws.VisitLaws.{visits-none, visits-next, visits-split}
 use Rattle.build_visits.specs.Items.{item_of, length_of}
 use Rattle.build_visits.specs.Spans.{is_span, span_at}
 use Rattle.build_visits.specs.Laws.Upto.{spans_to, length_to, spans-next, length-next, spans-none, items-none}
-use Rattle.build_plan.specs.declared.Plan.{Plan}
 use Rattle.build_plan.specs.declared.Sums.{Sums}
 use Rattle.build_plan.specs.Placing.{Placed, offer_of, verdict_on, holds, stops, placed_if, placed_next, placed_from, placed_all, walked_all}
 use Rattle.build_plan.specs.Laws.PlacingLaws.{placed-append, placed-last, stops-stay}
@@ -86,12 +86,10 @@ module _ (p : Program) (row : Row) where
 
   -- the walk begins
   pub begins : Switches p.banks.len p.kinds p.operands → (closed : Bool) (fill : ℕ) → fill ≤ max_offer
-      → {walk : Walk} → walk ≡ start_of → {x : Offered} → x ≡ record { verdict = Accepted; count = 0; marks = 0 }
-      → {sums : Sums} → sums ≡ record { length = fill; spans = 0 }
-      → Going p row closed fill 0 walk (store (replicate 512 0) (replicate 512 0) x.count (replicate 512 0) x.marks) sums
-  begins switches closed fill b a e f =
-      rw (e, f)
-      (let none = store (replicate 512 0) (replicate 512 0) 0 (replicate 512 0) 0 in
+      → {walk : Walk} → walk ≡ start_of
+      → Going p row closed fill 0 walk (store (replicate 512 0) (replicate 512 0) 0 (replicate 512 0) 0) (record { length = fill; spans = 0 })
+  begins switches closed fill b a =
+      let none = store (replicate 512 0) (replicate 512 0) 0 (replicate 512 0) 0 in
       record {
         within = omega arith;
         walks = walks-start p switches row a;
@@ -102,9 +100,14 @@ module _ (p : Program) (row : Row) where
         low = omega arith;
         counts = ap length (sym (spans-none p row));
         few = omega arith;
-      })
+      }
 
 module _ {p : Program} {row : Row} {closed : Bool} {fill i : ℕ} {walk : Walk} {s : Store} {sums : Sums} (g : Going p row closed fill i walk s sums) where
+  -- the loop has come to node i of its row
+  pub comes : Switches p.banks.len p.kinds p.operands → length p.banks.defs ≡ max_banks → {n : Node} → n ≡ node p row i
+      → {b : ℕ} → b ≡ bank_after walk.bank n → Comes p row i walk b n
+  comes switches room met stands = record { switches = switches; room = room; walks = g.walks; met = met; stands = stands }
+
   module _ {v : Visit} (visited : v ≡ visit_at p row i) {r : Verdict} (answer : r ≡ verdict_on closed (state_in s) v) where
     placed-then : placed_to p row closed (suc i) ≡ placed_if r (state_after (state_in s) (offer_of v))
     placed-then =
@@ -114,14 +117,14 @@ module _ {p : Program} {row : Row} {closed : Bool} {fill i : ℕ} {walk : Walk} 
         ∙ ap (λ (x : Verdict). placed_if x (state_after (state_in s) (offer_of v))) (sym answer)
 
     -- a refused node settles the plan
-    pub settles : (why : Refusal) → i < length p.kinds → r ≡ Refused why → plan_refused why ≡ plan_of p row closed fill
+    pub settles : (why : Refusal) → i < length p.kinds → r ≡ Err why → plan_refused why ≡ plan_of p row closed fill
     settles why b e =
         sym (ap (plan_by (length_to p row fill (length p.kinds)) (length (spans_to p row (length p.kinds))) (paddings_of p row))
         (stops-on p row closed (suc i) (length p.kinds) why b
         (placed-then ∙ ap (λ (x : Verdict). placed_if x (state_after (state_in s) (offer_of v))) e)))
 
     -- and is met
-    pub met-refused : (why : Refusal) → i < length p.kinds → r ≡ Refused why → i + 1 ≡ walked_all closed (visits p row)
+    pub met-refused : (why : Refusal) → i < length p.kinds → r ≡ Err why → i + 1 ≡ walked_all closed (visits p row)
     met-refused why b e =
         let next : placed_next closed (visit_at p row i) (holds (state_in s)) ≡ stops why =
         ap (λ (w : Visit). placed_next closed w (holds (state_in s))) (sym visited)

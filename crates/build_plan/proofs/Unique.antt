@@ -3,7 +3,7 @@ use mathlib.Core.Path.{ap, ◌∙◌}
 use Prim.Native.Nat.{ℕ}
 use Rattle.prelude.specs.Laws.Pick.{determined}
 use Rattle.prelude.specs.Laws.Outcome.{OneOutcome}
-use Rattle.prelude.specs.declared.Verdict.{Verdict}
+use Rattle.prelude.specs.Verdict.{Verdict}
 use Rattle.build_plan.specs.declared.Met.{Met}
 use Rattle.build_plan.proofs.checks.closes_default.Kinds as closes-default-kinds
 use Rattle.build_plan.proofs.checks.closes_default.Reads as closes-default-reads

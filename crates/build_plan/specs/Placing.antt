@@ -1,20 +1,13 @@
 -- What the build asks of each node in turn: refusals 9 to 13, and the intervals and marks stored (document 01, "Image, spans, blocks").
-use Rattle.std.specs.Prelude.{ℕ, suc, ◌+◌, Bool, true, false, not, ◌&&◌, ◌||◌, List, [], ◌∷◌, eqb, ltb}
+use Rattle.std.specs.Prelude.{ℕ, suc, ◌+◌, Bool, true, false, ◌&&◌, ◌||◌, List, [], ◌∷◌, eqb, ltb, Option, None, Some, Err, Result, Ok}
 use Rattle.prelude.specs.Pick.{pick}
 use Rattle.prelude.specs.declared.Refusal.{Refusal}
 use Rattle.prelude.specs.declared.Refusal.TheVariants.{DefaultBank, PastBank, NoOutput}
-use Rattle.prelude.specs.declared.Verdict.{Verdict}
-use Rattle.prelude.specs.declared.Verdict.TheVariants.{Accepted, Refused}
-use Rattle.prelude.specs.declared.Opt.{Opt}
-use Rattle.prelude.specs.declared.Opt.TheVariants.{None, Some}
-use Rattle.prelude.specs.declared.Offset.{Offset}
-use Rattle.prelude.specs.declared.Offset.TheVariants.{None as Nowhere, At as Out}
+use Rattle.prelude.specs.Verdict.{Verdict, Accepted}
 use Rattle.bankdef.specs.declared.Bankdef.{Bankdef}
 use Rattle.nodes.specs.Kinds.{is_reserve_kind, is_placed_kind, size_of}
 use Rattle.nodes.specs.declared.Node.{Node}
 use Rattle.iter.specs.declared.Pos.{Pos}
-use Rattle.iter.specs.declared.Moved.{Moved}
-use Rattle.iter.specs.declared.Moved.TheVariants.{To, Refused as Stopped}
 use Rattle.nodes.specs.Lists.{first_of}
 use Rattle.overlap_checker.specs.declared.Entry.{Entry}
 use Rattle.overlap_checker.specs.Interval.{interval}
@@ -37,11 +30,11 @@ abbrev pub is_offered : Node → Bool
 is_offered n = is_written n || is_reserve n
 
 -- "Written items, and reserves in banks with an offset, are offered to the store."
-abbrev pub bits_at : Offset → Node → List Entry
-bits_at Nowhere n = []
-bits_at (Out o) n = interval o n.number ∷ []
+abbrev pub bits_at : Option ℕ → Node → List Entry
+bits_at None n = []
+bits_at (Some o) n = interval o n.number ∷ []
 
-abbrev pub offer_at : Node → Offset → List Entry
+abbrev pub offer_at : Node → Option ℕ → List Entry
 offer_at n out = pick (is_offered n) (bits_at out n) []
 
 abbrev pub offer_of : Visit → List Entry
@@ -62,21 +55,21 @@ abbrev pub uses_default : Bool → ℕ → Bool
 uses_default closed bank = eqb bank 0 && closed
 
 -- "10: an item ends past its bank's size"
-abbrev pub ends_past : Opt → ℕ → Bool
+abbrev pub ends_past : Option ℕ → ℕ → Bool
 ends_past None end = false
 ends_past (Some size) end = ltb size end
 
-abbrev pub lacks_output : Offset → Bool
-lacks_output Nowhere = true
-lacks_output (Out o) = false
+abbrev pub lacks_output : Option ℕ → Bool
+lacks_output None = true
+lacks_output (Some o) = false
 
 -- 9, 10 and 11, in this order. `closed` says whether bank 0 is, `bank` is the one that the node stands in, `out` the node's place in the
 -- output.
-unfoldable pub checked : Bool → ℕ → Bankdef → Node → Pos → Offset → Verdict
+unfoldable pub checked : Bool → ℕ → Bankdef → Node → Pos → Option ℕ → Verdict
 checked closed bank def n at out =
-    pick (uses_default closed bank) (Refused (DefaultBank n.index))
-    (pick (ends_past def.size (at.position + size_of n)) (Refused (PastBank n.index))
-    (pick (is_written n && lacks_output out) (Refused (NoOutput n.index)) Accepted))
+    pick (uses_default closed bank) (Err (DefaultBank n.index))
+    (pick (ends_past def.size (at.position + size_of n)) (Err (PastBank n.index))
+    (pick (is_written n && lacks_output out) (Err (NoOutput n.index)) Accepted))
 
 -- ---- 12 and 13
 
@@ -86,18 +79,18 @@ answered stored node [] = Accepted
 answered stored node (e ∷ none) = answer stored e node
 
 -- "The build walks the nodes and tries 9, 10, 11, 12, 13 at each."
-abbrev pub tried : Bool → ℕ → Bankdef → State → Node → Pos → Offset → Verdict
+abbrev pub tried : Bool → ℕ → Bankdef → State → Node → Pos → Option ℕ → Verdict
 tried closed bank def stored n at out =
     first_of (checked closed bank def n at out) (answered stored n.index (offer_at n out))
 
 -- "9 and 10 apply to labels (size 0), written items (4, 5, 6) and reserves; 11 to written items."
-abbrev pub placing : Bool → ℕ → Bankdef → State → Node → Pos → Offset → Verdict
+abbrev pub placing : Bool → ℕ → Bankdef → State → Node → Pos → Option ℕ → Verdict
 placing closed bank def stored n at out = pick (is_placed n) (tried closed bank def stored n at out) Accepted
 
 -- the verdict on a node by the position that it sees: 5 where the walk stops there
-abbrev pub verdict_seen : Bool → ℕ → Bankdef → State → Node → Offset → Moved → Verdict
-verdict_seen closed bank def stored n out (Stopped why) = Refused why
-verdict_seen closed bank def stored n out (To at) = placing closed bank def stored n at out
+abbrev pub verdict_seen : Bool → ℕ → Bankdef → State → Node → Option ℕ → Result Pos Refusal → Verdict
+verdict_seen closed bank def stored n out (Err why) = Err why
+verdict_seen closed bank def stored n out (Ok at) = placing closed bank def stored n at out
 
 abbrev pub verdict_on : Bool → State → Visit → Verdict
 verdict_on closed stored v = verdict_seen closed v.bank v.def stored v.node v.out v.seen
@@ -111,7 +104,7 @@ pub data Placed : Type 0 where
 
 abbrev pub placed_if : Verdict → State → Placed
 placed_if Accepted stored = holds stored
-placed_if (Refused why) stored = stops why
+placed_if (Err why) stored = stops why
 
 -- a node placed after those before it
 abbrev pub placed_next : Bool → Visit → Placed → Placed

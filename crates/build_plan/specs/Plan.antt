@@ -1,9 +1,9 @@
 -- What the first walk over a row finds: the verdict on all its nodes and, where they are all accepted, the image's length, the number of spans
 -- and each bank's padding.
-use Rattle.std.specs.Prelude.{Bool, List, map, ℕ, length, replicate}
+use Rattle.std.specs.Prelude.{Bool, List, map, ℕ, length, replicate, Err}
 use Rattle.prelude.specs.Limits.{max_banks}
 use Rattle.prelude.specs.declared.Refusal.{Refusal}
-use Rattle.prelude.specs.declared.Verdict.TheVariants.{Accepted, Refused}
+use Rattle.prelude.specs.Verdict.{Accepted}
 use Rattle.bitvec.specs.Lists.{list_of}
 use Rattle.iter.specs.Step.{no_lost}
 use Rattle.iter.specs.declared.Lost.{Lost}
@@ -33,7 +33,7 @@ plan_accepted bits spans sums = record { verdict = Accepted; length = bits; span
 
 -- refused, a plan tells zeros
 abbrev pub plan_refused : Refusal → Plan
-plan_refused why = record { verdict = Refused why; length = 0; spans = 0; padding = replicate max_banks no_lost }
+plan_refused why = record { verdict = Err why; length = 0; spans = 0; padding = replicate max_banks no_lost }
 
 -- a plan of visits that were placed
 abbrev pub plan_by : ℕ → ℕ → List Lost → Placed → Plan

@@ -1,7 +1,6 @@
 -- What placing one node leaves in the store.
 use Rattle.std.specs.Prelude.{◌≡◌, List, [], ◌∷◌}
-use Rattle.prelude.specs.declared.Verdict.{Verdict}
-use Rattle.prelude.specs.declared.Verdict.TheVariants.{Accepted}
+use Rattle.prelude.specs.Verdict.{Verdict, Accepted}
 use Rattle.overlap_checker.specs.declared.Entry.{Entry}
 use Rattle.overlap_checker.specs.Folds.{state_after}
 use Rattle.overlap_checker.specs.Lent.{Lent as Store, state_in, Sound, laid_into, leaving}

@@ -6,23 +6,14 @@ ghost use Rattle.build_plan.specs.Placing.{ends_past, lacks_output, closes_defau
 use bankdef::Bankdef;
 use iter::Pos;
 use nodes::{Node, is_written, size_of};
-use prelude::{Offset, Opt, Refusal, Verdict};
+use prelude::Refusal;
 
-fn ends_past(size: Opt, end: u64) -> bool
+fn ends_past(size: Option<u32>, end: u64) -> bool
     ensures { result ≡ ends_past size end }
 {
     match size {
-        Opt::None => false,
-        Opt::Some(s) => (s as u64) < end,
-    }
-}
-
-fn lacks_output(out: Offset) -> bool
-    ensures { result ≡ lacks_output out }
-{
-    match out {
-        Offset::None => true,
-        Offset::At(_) => false,
+        None => false,
+        Some(s) => u64::from(s) < end,
     }
 }
 
@@ -30,52 +21,44 @@ fn lacks_output(out: Offset) -> bool
 pub fn closes_default(banks: u64, closed: bool) -> bool
     ensures { result ≡ closes_default banks closed }
 {
-    if closed {
-        return true;
-    }
-    1 < banks
+    closed || 1 < banks
 }
 
 fn check_bank_usage(closed: bool, bank: u64) -> bool
     ensures { result ≡ uses_default closed bank }
 {
-    if bank == 0 {
-        return closed;
-    }
-    false
+    bank == 0 && closed
 }
 
 // "11: an item is written in a bank without output offset"
-fn written_nowhere(node: Node, out: Offset) -> bool
+fn written_nowhere(node: Node, out: Option<u64>) -> bool
     ensures { result ≡ is_written node && lacks_output out }
 {
-    if is_written(node.kind) {
-        return lacks_output(out);
-    }
-    false
+    is_written(node.kind) && matches!(out, None)
 }
 
 // 9, 10 and 11, in this order.
+#[tactic(auto, unfolding(crate::specs::Placing::checked))]
 pub fn check_place(
     closed: bool,
     bank: u64,
     def: Bankdef,
     node: Node,
     at: Pos,
-    out: Offset,
-) -> Verdict
+    out: Option<u64>,
+) -> Result<(), Refusal>
     ensures { result ≡ checked closed bank def node at out }
 {
     let size = def.size;
-    let end = (at.position as u64) + (size_of(node) as u64);
+    let end = u64::from(at.position) + u64::from(size_of(node));
     if check_bank_usage(closed, bank) {
-        return Verdict::Refused(Refusal::DefaultBank(node.index));
+        return Err(Refusal::DefaultBank(node.index));
     }
     if ends_past(size, end) {
-        return Verdict::Refused(Refusal::PastBank(node.index));
+        return Err(Refusal::PastBank(node.index));
     }
     if written_nowhere(node, out) {
-        return Verdict::Refused(Refusal::NoOutput(node.index));
+        return Err(Refusal::NoOutput(node.index));
     }
-    Verdict::Accepted
+    Ok(())
 }

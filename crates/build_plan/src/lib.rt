@@ -6,8 +6,7 @@ mod checks;
 ghost use Rattle.std.specs.Prelude.{◌≡◌, true, ℕ, ◌+◌, ◌≤◌, length};
 ghost use Rattle.prelude.specs.Limits.{max_offer, max_nodes};
 ghost use Rattle.prelude.specs.Pick.{pick};
-ghost use Rattle.prelude.specs.declared.Offset.TheVariants.{At as Out};
-ghost use Rattle.prelude.specs.declared.Verdict.TheVariants.{Accepted};
+ghost use Rattle.prelude.specs.Verdict.{Accepted};
 ghost use Rattle.iter.specs.Pace.{seen_by};
 ghost use Rattle.iter.specs.Step.{start_of};
 ghost use Rattle.resolver.specs.Once.{walk_to, program_with};
@@ -25,148 +24,88 @@ use crate::checks::check_place;
 use bankdef::{Bankdef, Bankdefs};
 pub use checks::closes_default;
 use iter::{
-    Lost, Moved, Paced, Walk, bank_after, get_output_position, lost_after, pace, sight_of, start,
+    Lost, Paced, Pos, Walk, bank_after, get_output_position, lost_after, pace, sight_of, start,
 };
 use nodes::{Node, is_placed, is_span, is_written, node_at};
-use overlap_checker::Offered;
-use prelude::{LABEL, Offset, Refusal, Verdict};
+use prelude::{LABEL, Refusal};
 
-// The offer of a node that is placed: a label makes none, and neither does what stands nowhere in the output.
-fn offer_node(
-    node: Node,
-    out: Offset,
-    positions: &mut [u64; 512],
-    sizes: &mut [u64; 512],
+// What is placed so far: intervals, each by its position and size, and marks, and how many there are of each.
+#[derive(Drop)]
+struct Store {
+    positions: [u64; 512],
+    sizes: [u64; 512],
     count: usize,
-    marks: &mut [u64; 512],
+    marks: [u64; 512],
     mark_count: usize,
-) -> Offered
-    requires sound { Sound (store positions.old sizes.old count marks.old mark_count) }
-    requires node_value { is_placed node ≡ true }
-    requires by_index { (o : ℕ) → out ≡ Out o → o ≤ max_offer }
-    ensures verdict_value { result.verdict ≡ answered (state_in (store positions.old sizes.old count marks.old mark_count))
-        node.index (offer_at node out) }
-    ensures goes { Goes (store positions.old sizes.old count marks.old mark_count) (offer_at node out) result.verdict
-        (store positions.new sizes.new result.count marks.new result.marks) }
-{
-    match out {
-        Offset::None => Offered {
-            verdict: Verdict::Accepted,
-            count,
-            marks: mark_count,
-        },
-        Offset::At(o) => {
-            if node.kind == LABEL {
-                return Offered {
-                    verdict: Verdict::Accepted,
-                    count,
-                    marks: mark_count,
-                };
-            }
-            overlap_checker::offer(
-                positions,
-                sizes,
-                count,
-                marks,
-                mark_count,
-                o,
-                node.number as u64,
-                node.index,
-            )
-        }
-    }
 }
 
-// The verdict on a node by the position that it sees: 5 where the walk stops there, then 9 to 13. And how many intervals and marks are stored then.
-fn place(
-    closed: bool,
-    bank: u64,
-    def: Bankdef,
-    node: Node,
-    seen: Moved,
-    out: Offset,
-    positions: &mut [u64; 512],
-    sizes: &mut [u64; 512],
-    count: usize,
-    marks: &mut [u64; 512],
-    mark_count: usize,
-) -> Offered
-    requires sound { Sound (store positions.old sizes.old count marks.old mark_count) }
-    requires by_index { (o : ℕ) → out ≡ Out o → o ≤ max_offer }
-    ensures verdict_value { result.verdict ≡ verdict_seen closed bank def
-        (state_in (store positions.old sizes.old count marks.old mark_count)) node out seen }
-    ensures goes { Goes (store positions.old sizes.old count marks.old mark_count) (offer_at node out) result.verdict
-        (store positions.new sizes.new result.count marks.new result.marks) }
-{
-    match seen {
-        Moved::Refused(why) => Offered {
-            verdict: Verdict::Refused(why),
-            count,
-            marks: mark_count,
-        },
-        Moved::To(at) => {
-            if !is_placed(node.kind) {
-                return Offered {
-                    verdict: Verdict::Accepted,
-                    count,
-                    marks: mark_count,
-                };
-            }
-            let checked = check_place(closed, bank, def, node, at, out);
-            match checked {
-                Verdict::Refused(why) => Offered {
-                    verdict: Verdict::Refused(why),
-                    count,
-                    marks: mark_count,
-                },
-                Verdict::Accepted => {
-                    offer_node(node, out, positions, sizes, count, marks, mark_count)
-                }
-            }
+impl Store {
+    // The offer of a node that is placed: a label makes none, and neither does what stands nowhere in the output.
+    fn offer(&mut self, node: Node, out: Option<u64>) -> Result<(), Refusal>
+        requires sound { Sound (store self.old.positions self.old.sizes self.old.count self.old.marks self.old.mark_count) }
+        requires node_value { is_placed node ≡ true }
+        requires by_index { (o : ℕ) → out ≡ Some o → o ≤ max_offer }
+        ensures verdict_value { result ≡ answered
+            (state_in (store self.old.positions self.old.sizes self.old.count self.old.marks self.old.mark_count)) node.index (offer_at node out) }
+        ensures goes { Goes (store self.old.positions self.old.sizes self.old.count self.old.marks self.old.mark_count) (offer_at node out) result
+            (store self.new.positions self.new.sizes self.new.count self.new.marks self.new.mark_count) }
+    {
+        let Some(o) = out else {
+            return Ok(());
+        };
+        if node.kind == LABEL {
+            return Ok(());
         }
+        let offered = overlap_checker::offer(
+            &mut self.positions,
+            &mut self.sizes,
+            self.count,
+            &mut self.marks,
+            self.mark_count,
+            o,
+            u64::from(node.number),
+            node.index,
+        );
+        self.count = offered.count;
+        self.mark_count = offered.marks;
+        offered.verdict
     }
-}
 
-// The same by the node's step, whose numbers tell what it sees.
-fn place_paced(
-    closed: bool,
-    bank: u64,
-    def: Bankdef,
-    node: Node,
-    step: Paced,
-    out: Offset,
-    positions: &mut [u64; 512],
-    sizes: &mut [u64; 512],
-    marks: &mut [u64; 512],
-    stored: Offered,
-) -> Offered
-    requires sound { Sound (store positions.old sizes.old stored.count marks.old stored.marks) }
-    requires by_index { (o : ℕ) → out ≡ Out o → o ≤ max_offer }
-    ensures verdict_value { result.verdict ≡ verdict_seen closed bank def
-        (state_in (store positions.old sizes.old stored.count marks.old stored.marks)) node out
-        (seen_by step node.index) }
-    ensures goes { Goes (store positions.old sizes.old stored.count marks.old stored.marks) (offer_at node out)
-        result.verdict (store positions.new sizes.new result.count marks.new result.marks) }
-{
-    let seen = sight_of(step, node.index);
-    place(
-        closed,
-        bank,
-        def,
-        node,
-        seen,
-        out,
-        positions,
-        sizes,
-        stored.count,
-        marks,
-        stored.marks,
-    )
+    // The verdict on a node by its step, whose numbers tell the position that it sees: 5 where the walk stops there, then 9 to 13.
+    fn place(
+        &mut self,
+        closed: bool,
+        bank: u64,
+        def: Bankdef,
+        node: Node,
+        step: Paced,
+        out: Option<u64>,
+    ) -> Result<(), Refusal>
+        requires sound { Sound (store self.old.positions self.old.sizes self.old.count self.old.marks self.old.mark_count) }
+        requires by_index { (o : ℕ) → out ≡ Some o → o ≤ max_offer }
+        ensures verdict_value { result ≡ verdict_seen closed bank def
+            (state_in (store self.old.positions self.old.sizes self.old.count self.old.marks self.old.mark_count)) node out
+            (seen_by step node.index) }
+        ensures goes { Goes (store self.old.positions self.old.sizes self.old.count self.old.marks self.old.mark_count) (offer_at node out) result
+            (store self.new.positions self.new.sizes self.new.count self.new.marks self.new.mark_count) }
+    {
+        let at = match sight_of(step, node.index) {
+            Err(why) => return Err(why),
+            Ok(at) => at,
+        };
+        if !is_placed(node.kind) {
+            return Ok(());
+        }
+        if let Err(why) = check_place(closed, bank, def, node, at, out) {
+            return Err(why);
+        }
+        self.offer(node, out)
+    }
 }
 
 // "Image length is the larger of the fill's and the furthest end of a written item": the length after a node.
-fn length_after(node: Node, out: Offset, length: u64) -> u64
-    requires by_index { (o : ℕ) → out ≡ Out o → o ≤ max_offer }
+fn length_after(node: Node, out: Option<u64>, length: u64) -> u64
+    requires by_index { (o : ℕ) → out ≡ Some o → o ≤ max_offer }
     requires length_le_max_end { length ≤ max_end }
     ensures value { result ≡ length_of length (item_at node out) }
     ensures upper_bound { result ≤ max_end }
@@ -175,14 +114,8 @@ fn length_after(node: Node, out: Offset, length: u64) -> u64
         return length;
     }
     match out {
-        Offset::None => length,
-        Offset::At(o) => {
-            let end = o + (node.number as u64);
-            if length < end {
-                return end;
-            }
-            length
-        }
+        None => length,
+        Some(o) => length.max(o + u64::from(node.number)),
     }
 }
 
@@ -200,18 +133,8 @@ pub struct Sums {
     pub spans: u64,
 }
 
-// "Image length is the larger of the fill's and ..": before the first node.
-fn no_sums(fill: u64) -> Sums
-    ensures { result ≡ record { length = fill; spans = 0 } }
-{
-    Sums {
-        length: fill,
-        spans: 0,
-    }
-}
-
-fn sums_after(node: Node, out: Offset, sums: Sums) -> Sums
-    requires by_index { (o : ℕ) → out ≡ Out o → o ≤ max_offer }
+fn sums_after(node: Node, out: Option<u64>, sums: Sums) -> Sums
+    requires by_index { (o : ℕ) → out ≡ Some o → o ≤ max_offer }
     requires length_le_max_end { (sums.length ≤ max_end) × (sums.spans ≤ max_nodes) }
     ensures length_value { result.length ≡ length_of sums.length (item_at node out) }
     ensures length_le_max_end_2 { result.length ≤ max_end }
@@ -226,7 +149,7 @@ fn sums_after(node: Node, out: Offset, sums: Sums) -> Sums
 // What the first walk finds: the verdict on all nodes, and the image's length, the number of spans and each bank's padding. Refused, zeros.
 #[derive(Clone, Copy)]
 pub struct Plan {
-    pub verdict: Verdict,
+    pub verdict: Result<(), Refusal>,
     pub length: u64,
     pub spans: u64,
     pub padding: [Lost; 16],
@@ -237,21 +160,10 @@ fn refused_plan(why: Refusal) -> Plan
 {
     let none = Lost { bits: 0, units: 0 };
     Plan {
-        verdict: Verdict::Refused(why),
+        verdict: Err(why),
         length: 0,
         spans: 0,
         padding: [none; 16],
-    }
-}
-
-// An empty store.
-fn none_stored() -> Offered
-    ensures { result ≡ record { verdict = Accepted; count = 0; marks = 0 } }
-{
-    Offered {
-        verdict: Verdict::Accepted,
-        count: 0,
-        marks: 0,
     }
 }
 
@@ -284,7 +196,7 @@ fn reached(sums: Sums, nodes: usize, walk: Walk) -> Planned
 {
     let padding = walk.lost;
     let plan = Plan {
-        verdict: Verdict::Accepted,
+        verdict: Ok(()),
         length: sums.length,
         spans: sums.spans,
         padding,
@@ -321,32 +233,27 @@ fn plan_walk(
         → result.walk ≡ walk_to (program_with banks kinds.now operands.now first.now)
         (row_with numbers.now states.now) (length kinds.now) }
 {
-    let mut positions = [0u64; 512];
-    let mut sizes = [0u64; 512];
-    let mut marks = [0u64; 512];
-    let mut stored = none_stored();
+    let mut stored = Store {
+        positions: [0; 512],
+        sizes: [0; 512],
+        count: 0,
+        marks: [0; 512],
+        mark_count: 0,
+    };
     let mut walk = begun;
-    let mut sums = no_sums(fill);
+    // "Image length is the larger of the fill's and ..": before the first node.
+    let mut sums = Sums {
+        length: fill,
+        spans: 0,
+    };
+    // stays: node i is read from five lists at once; a zip of five is no plainer
     for i in 0..kinds.len() {
         let node = node_at(kinds, operands, first, numbers, states, i);
         let bank = bank_after(walk.bank, node);
         let def = banks.defs[bank as usize];
         let step = pace(def, walk.at[bank as usize], node);
         let out = get_output_position(def, step.seen.position);
-        stored = place_paced(
-            closed,
-            bank,
-            def,
-            node,
-            step,
-            out,
-            &mut positions,
-            &mut sizes,
-            &mut marks,
-            stored,
-        );
-        let verdict = stored.verdict;
-        if let Verdict::Refused(why) = verdict {
+        if let Err(why) = stored.place(closed, bank, def, node, step, out) {
             return stopped(why, i, walk);
         }
         sums = sums_after(node, out, sums);
@@ -396,7 +303,7 @@ pub fn plan_row(
 // What the first walk comes to alone: the verdict on all nodes, and how many it met, one that is refused among them.
 #[derive(Clone, Copy)]
 pub struct Met {
-    pub verdict: Verdict,
+    pub verdict: Result<(), Refusal>,
     pub nodes: u64,
 }
 

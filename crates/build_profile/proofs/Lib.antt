@@ -1,3 +1,4 @@
 pub mod Answered
 pub mod Loops
+pub mod Searches
 pub mod Unique

@@ -4,7 +4,7 @@ use mathlib.Core.Path.{◌≡◌, refl, sym, ap, ◌∙◌, fun_ext}
 use mathlib.Core.Bool.{Bool, true, false, not, ◌||◌}
 use mathlib.Core.List.{List, [], ◌∷◌, ◌++◌, map}
 use mathlib.Core.Logic.{⊎_elim}
-use native.Mathlib.Nat.{eq-or-lt_of_le, suc-mul, mul-le-mul_right, not-suc-le-zero, le_of_suc-le-suc}
+use native.Mathlib.Nat.{eq-or-lt_of_le, not-suc-le-zero, le_of_suc-le-suc}
 use native.Mathlib.Numerals.{add-one}
 use native.Mathlib.Omega.{arith}
 use lib.Dec.{eqb}
@@ -31,10 +31,6 @@ module _ (keeps : ℕ → Bool) where
 
   pub is-broken : (i : ℕ) {t : Bool} → t ≡ keeps i → not t ≡ true → keeps i ≡ false
   is-broken i {t} e n = sym e ∙ not-true t n
-
--- the number of node i in row r stands within the rows
-pub cell-inside : (r rows n i : ℕ) → r < rows → i < n → r * n + i < rows * n
-cell-inside r rows n i h g = let a = mul-le-mul_right n h in omega (arith, suc-mul r n)
 
 module _ (kinds operands numbers : List ℕ) (rows i : ℕ) (listed : i < length kinds) where
   -- it is what the row shows, but for kind 5

@@ -1,6 +1,5 @@
 -- The six rules by plain facts, and that the tests tell just those.
-use Rattle.std.specs.Prelude.{ℕ, ◌%◌, ◌≡◌, ◌⊎◌, get_or}
-use Rattle.prelude.specs.declared.Opt.TheVariants.{Some}
+use Rattle.std.specs.Prelude.{ℕ, ◌%◌, ◌≡◌, ◌⊎◌, get_or, Some}
 use Rattle.bankdef.specs.declared.Bankdefs.{Bankdefs}
 use Rattle.nodes.specs.Lists.{Lists}
 use Rattle.resolver.specs.Once.{bank_record}

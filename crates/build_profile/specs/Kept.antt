@@ -1,8 +1,7 @@
 -- "It says yes exactly when all of them hold"; otherwise it names the least rule that is broken, and the first bank or node that breaks it.
-use Rattle.std.specs.Prelude.{ℕ, length}
+use Rattle.std.specs.Prelude.{ℕ, length, Err}
 use Rattle.prelude.specs.declared.Refusal.TheVariants.{OffProfile}
-use Rattle.prelude.specs.declared.Verdict.{Verdict}
-use Rattle.prelude.specs.declared.Verdict.TheVariants.{Accepted, Refused}
+use Rattle.prelude.specs.Verdict.{Verdict, Accepted}
 use Rattle.bankdef.specs.declared.Bankdefs.{Bankdefs}
 use Rattle.nodes.specs.Lists.{Lists}
 use Rattle.build_profile.specs.Keeping.{LabelAligned, AlignKept, OffsetKept, SizeKept, UnitKept, AddrKept}
@@ -43,4 +42,4 @@ pub data Breaks (banks : Bankdefs) (l : Lists) (page : ℕ) : ℕ → ℕ → Ty
 
 pub data Judged (banks : Bankdefs) (l : Lists) (page : ℕ) : Verdict → Type 0 where
   keeps : InProfile banks l page → Judged banks l page Accepted
-  breaks : {rule at : ℕ} → Breaks banks l page rule at → Judged banks l page (Refused (OffProfile rule at))
+  breaks : {rule at : ℕ} → Breaks banks l page rule at → Judged banks l page (Err (OffProfile rule at))

@@ -1,8 +1,6 @@
 -- Each bank's pages (document 02, Ticket 9).
-use Rattle.std.specs.Prelude.{ℕ, ◌-◌, ◌/◌, List, ◌++◌, map, replicate}
+use Rattle.std.specs.Prelude.{ℕ, ◌-◌, ◌/◌, List, ◌++◌, map, replicate, Option, None, Some}
 use Rattle.prelude.specs.Limits.{max_banks}
-use Rattle.prelude.specs.declared.Opt.{Opt}
-use Rattle.prelude.specs.declared.Opt.TheVariants.{None, Some}
 use Rattle.bankdef.specs.Check.{banks_of}
 use Rattle.bankdef.specs.declared.Bankdef.{Bankdef}
 use Rattle.bankdef.specs.declared.Bankdefs.{Bankdefs}
@@ -12,7 +10,7 @@ abbrev pub no_pages : ℕ
 no_pages = 18446744073709551615
 
 -- "its size over the page size, none without an offset"
-abbrev pub pages_by : ℕ → Opt → Opt → ℕ
+abbrev pub pages_by : ℕ → Option ℕ → Option ℕ → ℕ
 pages_by page None size = no_pages
 pages_by page (Some offset) None = no_pages
 pages_by page (Some offset) (Some size) = size / page

@@ -1,7 +1,6 @@
 -- The profile call: "19 (new), after 4 and before the first pass"; yes, "then with each bank's pages".
-use Rattle.std.specs.Prelude.{ℕ}
-use Rattle.prelude.specs.declared.Verdict.{Verdict}
-use Rattle.prelude.specs.declared.Verdict.TheVariants.{Accepted, Refused}
+use Rattle.std.specs.Prelude.{ℕ, Err}
+use Rattle.prelude.specs.Verdict.{Verdict, Accepted}
 use Rattle.bankdef.specs.Check.{check_of}
 use Rattle.bankdef.specs.declared.Bankdefs.{Bankdefs}
 use Rattle.nodes.specs.Lists.{Lists, lists_of, first_of}
@@ -16,7 +15,7 @@ verdict_of banks l fill page = first_of (check_of banks) (first_of (lists_of ban
 -- "It says yes exactly when all of them hold, then with each bank's pages"
 abbrev pub paged_by : Verdict → ℕ → Bankdefs → Paged
 paged_by Accepted page banks = record { verdict = Accepted; pages = pages_of page banks }
-paged_by (Refused why) page banks = record { verdict = Refused why; pages = none_paged }
+paged_by (Err why) page banks = record { verdict = Err why; pages = none_paged }
 
 abbrev pub profile_of : Bankdefs → Lists → ℕ → ℕ → Paged
 profile_of banks l fill page = paged_by (verdict_of banks l fill page) page banks

@@ -1,11 +1,8 @@
 -- The paged device's six rules (document 02, Ticket 9), and the first that is broken.
-use Rattle.std.specs.Prelude.{ℕ, ◌%◌, Bool, true, false, not, ◌||◌, eqb, leb, get_or, length}
+use Rattle.std.specs.Prelude.{ℕ, ◌%◌, Bool, true, false, not, ◌||◌, eqb, leb, get_or, length, Option, None, Some, Err}
 use Rattle.prelude.specs.Pick.{pick}
-use Rattle.prelude.specs.declared.Opt.{Opt}
-use Rattle.prelude.specs.declared.Opt.TheVariants.{None, Some}
 use Rattle.prelude.specs.declared.Refusal.TheVariants.{OffProfile}
-use Rattle.prelude.specs.declared.Verdict.{Verdict}
-use Rattle.prelude.specs.declared.Verdict.TheVariants.{Accepted, Refused}
+use Rattle.prelude.specs.Verdict.{Verdict, Accepted}
 use Rattle.bankdef.specs.declared.Bankdefs.{Bankdefs}
 use Rattle.nodes.specs.FaultExactly.{shown_in}
 use Rattle.nodes.specs.Kinds.{is_align, is_addr}
@@ -22,7 +19,7 @@ abbrev pub aligned : ℕ → Bool
 aligned a = eqb a 0 || one_bit a
 
 -- a bank's label alignment, if it has one
-abbrev pub bank_aligned : Opt → Bool
+abbrev pub bank_aligned : Option ℕ → Bool
 bank_aligned None = true
 bank_aligned (Some a) = aligned a
 
@@ -34,12 +31,12 @@ abbrev pub multiple : ℕ → ℕ → Bool
 multiple x of = eqb (x % of) 0
 
 -- "every bank with an offset must have its offset on a page"
-abbrev pub on_page : ℕ → Opt → Bool
+abbrev pub on_page : ℕ → Option ℕ → Bool
 on_page page None = true
 on_page page (Some offset) = multiple offset page
 
 -- "and a size of whole pages", "(none breaks it)"
-abbrev pub whole_pages : ℕ → Opt → Opt → Bool
+abbrev pub whole_pages : ℕ → Option ℕ → Option ℕ → Bool
 whole_pages page None size = true
 whole_pages page (Some offset) None = false
 whole_pages page (Some offset) (Some size) = multiple size page
@@ -68,7 +65,7 @@ all keeps n = leb n (first_broken keeps n)
 
 -- "The answer names the first rule broken .., each ascending"; "place: rule and bank or node"
 abbrev pub ruled : ℕ → (ℕ → Bool) → ℕ → Verdict
-ruled rule keeps n = pick (all keeps n) Accepted (Refused (OffProfile rule (first_broken keeps n)))
+ruled rule keeps n = pick (all keeps n) Accepted (Err (OffProfile rule (first_broken keeps n)))
 
 -- ---- the rules
 

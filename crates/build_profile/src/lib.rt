@@ -10,7 +10,7 @@ ghost use Rattle.build_profile.specs.Pages.{pages_in, pages_of};
 ghost use Rattle.build_profile.specs.Told.{Answers};
 
 use bankdef::{Bankdef, Bankdefs};
-use prelude::{Opt, Verdict};
+use prelude::Refusal;
 use resolver::Choices;
 
 // The word for none among the banks' pages: larger than any count of pages.
@@ -19,7 +19,7 @@ pub const NO_PAGES: u64 = 18_446_744_073_709_551_615;
 // Whether a layout keeps the profile, or why not; and, where it does, the pages of each bank, by its number.
 #[derive(Clone, Copy)]
 pub struct Paged {
-    pub verdict: Verdict,
+    pub verdict: Result<(), Refusal>,
     pub pages: [u64; 16],
 }
 
@@ -28,15 +28,13 @@ fn pages_in(b: Bankdef, page: u32) -> u64
     requires { 0 < page }
     ensures { result ≡ pages_in page b }
 {
-    let offset = b.offset;
-    let Opt::Some(_) = offset else {
+    let Some(_) = b.offset else {
         return NO_PAGES;
     };
-    let size = b.size;
-    let Opt::Some(bits) = size else {
+    let Some(bits) = b.size else {
         return NO_PAGES;
     };
-    (bits / page) as u64
+    u64::from(bits / page)
 }
 
 // The pages of every bank that the table lists; the rest have none.
@@ -45,9 +43,8 @@ fn pages_of(banks: Bankdefs, page: u32) -> [u64; 16]
     ensures { result ≡ pages_of page banks }
 {
     let mut pages = [NO_PAGES; 16];
-    let n = banks.len as usize;
-    for i in 0..n {
-        let b = banks.defs[i];
+    // stays: written by the index; behind an `iter_mut` a proof knows the array's length and not its elements
+    for (i, &b) in banks.defs[..banks.len as usize].iter().enumerate() {
         pages[i] = pages_in(b, page);
     }
     pages
@@ -82,12 +79,12 @@ pub fn check_profile(
         page,
     );
     match verdict {
-        Verdict::Refused(why) => Paged {
-            verdict: Verdict::Refused(why),
+        Err(why) => Paged {
+            verdict: Err(why),
             pages: [NO_PAGES; 16],
         },
-        Verdict::Accepted => Paged {
-            verdict: Verdict::Accepted,
+        Ok(()) => Paged {
+            verdict: Ok(()),
             pages: pages_of(banks, page),
         },
     }

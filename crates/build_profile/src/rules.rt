@@ -1,74 +1,61 @@
 // The six rules, over the banks and over the nodes in every row.
-ghost use Rattle.std.specs.Prelude.{◌≡◌, [], ◌+◌, ◌*◌, ◌≤◌, ◌<◌, eqb, length, get_or};
+ghost use Rattle.std.specs.Prelude.{◌≡◌, [], ◌+◌, ◌*◌, ◌/◌, ◌≤◌, ◌<◌, not, ◌||◌, eqb, length, get_or};
 ghost use Rattle.prelude.specs.Limits.{max_banks};
 ghost use Rattle.prelude.specs.Pick.{pick};
 ghost use Rattle.nodes.specs.Lists.{lists, first_of};
 ghost use Rattle.resolver.specs.Once.{bank_record};
 ghost use Rattle.build_profile.specs.OneBit.{one_bit};
 ghost use Rattle.build_profile.specs.Profile.{verdict_of};
-ghost use Rattle.build_profile.specs.Rules.{multiple, kept_by, aligned, bank_aligned, on_page, whole_pages, unit_kept, node_aligned, addr_kept, all, ruled};
+ghost use Rattle.build_profile.specs.Rules.{kept_by, aligned, bank_aligned, on_page, whole_pages, unit_kept, all, ruled};
 ghost use Rattle.build_profile.specs.Rules.{aligns_kept, addrs_kept, rules_of};
 ghost use Rattle.build_profile.specs.Steps.{bank_keeps, nodes_of, Sized};
 
 use bankdef::{Bankdef, Bankdefs};
-use prelude::{ADDR, ALIGN, Opt, Refusal, SWITCH, Verdict};
+use prelude::{ADDR, ALIGN, Refusal, SWITCH};
 
 // "must have exactly one bit set": a count of ones equal to 1.
 fn one_bit(x: u32) -> bool
     ensures { result ≡ one_bit x }
 {
-    u32::count_ones(x) == 1
+    x.count_ones() == 1
 }
 
 // "every nonzero alignment must have exactly one bit set"
 fn is_aligned(alignment: u32) -> bool
     ensures { result ≡ aligned alignment }
 {
-    if alignment == 0 {
-        return true;
-    }
-    one_bit(alignment)
+    alignment == 0 || one_bit(alignment)
 }
 
 // Whether a bank's label alignment keeps rule 2.
-fn bank_aligned(alignment: Opt) -> bool
+fn bank_aligned(alignment: Option<u32>) -> bool
     ensures { result ≡ bank_aligned alignment }
 {
     match alignment {
-        Opt::None => true,
-        Opt::Some(a) => is_aligned(a),
+        None => true,
+        Some(a) => is_aligned(a),
     }
-}
-
-// Whether x is a multiple; of 0, only 0 is.
-fn is_multiple(x: u32, of: u32) -> bool
-    ensures { result ≡ multiple x of }
-{
-    if of == 0 {
-        return x == 0;
-    }
-    x % of == 0
 }
 
 // "every bank with an offset must have its offset on a page"
-fn on_page(offset: Opt, page: u32) -> bool
+fn on_page(offset: Option<u32>, page: u32) -> bool
     ensures { result ≡ on_page page offset }
 {
     match offset {
-        Opt::None => true,
-        Opt::Some(o) => is_multiple(o, page),
+        None => true,
+        Some(o) => o.is_multiple_of(page),
     }
 }
 
 // "and a size of whole pages", "(none breaks it)"
-fn whole_pages(offset: Opt, size: Opt, page: u32) -> bool
+fn whole_pages(offset: Option<u32>, size: Option<u32>, page: u32) -> bool
     ensures { result ≡ whole_pages page offset size }
 {
     match offset {
-        Opt::None => true,
-        Opt::Some(_) => match size {
-            Opt::None => false,
-            Opt::Some(bits) => is_multiple(bits, page),
+        None => true,
+        Some(_) => match size {
+            None => false,
+            Some(bits) => bits.is_multiple_of(page),
         },
     }
 }
@@ -77,51 +64,37 @@ fn whole_pages(offset: Opt, size: Opt, page: u32) -> bool
 fn unit_kept(unit: u32) -> bool
     ensures { result ≡ unit_kept unit }
 {
-    if unit == 8 {
-        return true;
-    }
-    unit == 16
+    unit == 8 || unit == 16
 }
 
 // Whether a bank keeps a rule: 2, 3 or 4, or else 5.
 fn bank_keeps(rule: u64, b: Bankdef, page: u32) -> bool
     ensures { result ≡ bank_keeps rule page b }
 {
-    let offset = b.offset;
-    let unit = b.unit as u32;
     match rule {
-        2 => {
-            let alignment = b.align;
-            bank_aligned(alignment)
-        }
-        3 => on_page(offset, page),
-        4 => {
-            let size = b.size;
-            whole_pages(offset, size, page)
-        }
-        _ => unit_kept(unit),
+        2 => bank_aligned(b.align),
+        3 => on_page(b.offset, page),
+        4 => whole_pages(b.offset, b.size, page),
+        _ => unit_kept(u32::from(b.unit)),
     }
 }
 
-fn off_profile(rule: u64, at: u64) -> Verdict
-    ensures { result ≡ Verdict.Refused (Refusal.OffProfile rule at) }
+fn off_profile(rule: u64, at: u64) -> Result<(), Refusal>
+    ensures { result ≡ Err (Refusal.OffProfile rule at) }
 {
-    Verdict::Refused(Refusal::OffProfile(rule, at))
+    Err(Refusal::OffProfile(rule, at))
 }
 
 // A rule over the banks, ascending.
-fn check_banks(banks: Bankdefs, rule: u64, page: u32) -> Verdict
+fn check_banks(banks: Bankdefs, rule: u64, page: u32) -> Result<(), Refusal>
     requires { banks.len ≤ max_banks }
     ensures { result ≡ ruled rule (λ k. bank_keeps rule page (bank_record banks k)) banks.len }
 {
-    let n = banks.len as usize;
-    for i in 0..n {
-        let b = banks.defs[i];
-        if !bank_keeps(rule, b, page) {
-            return off_profile(rule, i as u64);
-        }
+    let listed = &banks.defs[..banks.len as usize];
+    match listed.iter().position(|&b| !bank_keeps(rule, b, page)) {
+        Some(i) => off_profile(rule, i as u64),
+        None => Ok(()),
     }
-    Verdict::Accepted
 }
 
 // Whether a number keeps rule 2, as an alignment, or rule 6, as a multiple of the unit.
@@ -131,58 +104,38 @@ fn is_kept(rule: u8, number: u32, unit: u32) -> bool
     if rule == 2 {
         return is_aligned(number);
     }
-    is_multiple(number, unit)
+    number.is_multiple_of(unit)
 }
 
 // Whether the number of node `i` of `n` keeps that rule in every row.
-fn rows_keep(rule: u8, numbers: &[u32], n: usize, rows: u64, i: usize, unit: u32) -> bool
-    requires { (i < n) × (length numbers.now ≡ rows * n) }
-    ensures { result ≡ all (λ r. kept_by rule (get_or numbers.now (r * n + i) 0) unit) rows }
+fn rows_keep(rule: u8, numbers: &[u32], n: usize, i: usize, unit: u32) -> bool
+    requires { i < n }
+    ensures { result ≡ all (λ r. kept_by rule (get_or numbers.now (r * n + i) 0) unit) (length numbers.now / n) }
 {
-    for r in 0..rows {
-        let at = (r as usize) * n + i;
-        if !is_kept(rule, numbers[at], unit) {
-            return false;
-        }
-    }
-    true
+    numbers
+        .chunks_exact(n)
+        .all(|row| is_kept(rule, row[i], unit))
 }
 
-// Whether node `i`, if it is an `align`, keeps rule 2 in every row.
-fn node_aligned(kinds: &[u8], numbers: &[u32], rows: u64, i: usize) -> bool
-    requires { (i < length kinds.now) × (length numbers.now ≡ rows * length kinds.now) }
-    ensures { result ≡ all (λ r. node_aligned (get_or kinds.now i 0)
-        (get_or numbers.now (r * length kinds.now + i) 0)) rows }
+// Whether node `i` of `n`, if it is of the kind that the rule is about, keeps it in every row: rule 2 is about `align`, rule 6 about `addr`, in a bank with
+// this unit.
+fn node_kept(rule: u8, about: u8, kind: u8, numbers: &[u32], n: usize, i: usize, unit: u32) -> bool
+    requires { i < n }
+    ensures { result ≡ all (λ r. not (eqb kind about) || kept_by rule (get_or numbers.now (r * n + i) 0) unit) (length numbers.now / n) }
 {
-    if kinds[i] != ALIGN {
-        return true;
-    }
-    rows_keep(2, numbers, kinds.len(), rows, i, 0)
-}
-
-// Whether node `i`, if it is an `addr`, keeps rule 6 in every row, in a bank with this unit.
-fn addr_kept(kinds: &[u8], numbers: &[u32], rows: u64, i: usize, unit: u32) -> bool
-    requires { (i < length kinds.now) × (length numbers.now ≡ rows * length kinds.now) }
-    ensures { result ≡ all (λ r. addr_kept unit (get_or kinds.now i 0)
-        (get_or numbers.now (r * length kinds.now + i) 0)) rows }
-{
-    if kinds[i] != ADDR {
-        return true;
-    }
-    rows_keep(6, numbers, kinds.len(), rows, i, unit)
+    kind != about || rows_keep(rule, numbers, n, i, unit)
 }
 
 // Rule 2 over the nodes, ascending: `align` in every row.
-fn check_aligns(kinds: &[u8], numbers: &[u32], rows: u64) -> Verdict
-    requires { length numbers.now ≡ rows * length kinds.now }
-    ensures { result ≡ ruled 2 (aligns_kept (nodes_of kinds.now [] numbers.now rows)) (length kinds.now) }
+fn check_aligns(kinds: &[u8], numbers: &[u32]) -> Result<(), Refusal>
+    ensures { result ≡ ruled 2 (aligns_kept (nodes_of kinds.now [] numbers.now (length numbers.now / length kinds.now))) (length kinds.now) }
 {
-    for i in 0..kinds.len() {
-        if !node_aligned(kinds, numbers, rows, i) {
+    for (i, &kind) in kinds.iter().enumerate() {
+        if !node_kept(2, ALIGN, kind, numbers, kinds.len(), i, 0) {
             return off_profile(2, i as u64);
         }
     }
-    Verdict::Accepted
+    Ok(())
 }
 
 // The bank in force after a node, from the one before it.
@@ -198,42 +151,42 @@ fn check_addrs(
     kinds: &[u8],
     operands: &[u32],
     numbers: &[u32],
-    rows: u64,
-) -> Verdict
-    requires { Sized banks kinds.now operands.now numbers.now rows }
+) -> Result<(), Refusal>
+    requires { Sized banks kinds.now operands.now numbers.now (length numbers.now / length kinds.now) }
     ensures { result ≡ ruled 6
-        (addrs_kept banks (nodes_of kinds.now operands.now numbers.now rows))
+        (addrs_kept banks (nodes_of kinds.now operands.now numbers.now (length numbers.now / length kinds.now)))
         (length kinds.now) }
 {
     let mut bank: u32 = 0;
-    for i in 0..kinds.len() {
-        bank = bank_next(kinds[i], operands[i], bank);
-        let b = banks.defs[bank as usize];
-        if !addr_kept(kinds, numbers, rows, i, b.unit as u32) {
+    // stays: the operand by its index; tried as a zip, numbered, whose proof did not close
+    for (i, &kind) in kinds.iter().enumerate() {
+        bank = bank_next(kind, operands[i], bank);
+        let unit = u32::from(banks.defs[bank as usize].unit);
+        if !node_kept(6, ADDR, kind, numbers, kinds.len(), i, unit) {
             return off_profile(6, i as u64);
         }
     }
-    Verdict::Accepted
+    Ok(())
 }
 
 // Rule 1, page size, place 0.
-fn check_page(page: u32) -> Verdict
+fn check_page(page: u32) -> Result<(), Refusal>
     ensures { result ≡ ruled 1 (λ _. one_bit page) 1 }
 {
     if one_bit(page) {
-        Verdict::Accepted
+        Ok(())
     } else {
         off_profile(1, 0)
     }
 }
 
 // The earlier of two verdicts that refuses.
-fn earlier(first: Verdict, later: Verdict) -> Verdict
+fn earlier(first: Result<(), Refusal>, later: Result<(), Refusal>) -> Result<(), Refusal>
     ensures { result ≡ first_of first later }
 {
     match first {
-        Verdict::Refused(why) => Verdict::Refused(why),
-        Verdict::Accepted => later,
+        Err(_) => first,
+        Ok(()) => later,
     }
 }
 
@@ -244,19 +197,18 @@ fn check_rules(
     kinds: &[u8],
     operands: &[u32],
     numbers: &[u32],
-    rows: u64,
     page: u32,
-) -> Verdict
-    requires { Sized banks kinds.now operands.now numbers.now rows }
-    ensures { result ≡ rules_of banks (nodes_of kinds.now operands.now numbers.now rows) page }
+) -> Result<(), Refusal>
+    requires { Sized banks kinds.now operands.now numbers.now (length numbers.now / length kinds.now) }
+    ensures { result ≡ rules_of banks (nodes_of kinds.now operands.now numbers.now (length numbers.now / length kinds.now)) page }
 {
     let size = check_page(page);
     let labels = check_banks(banks, 2, page);
-    let aligns = check_aligns(kinds, numbers, rows);
+    let aligns = check_aligns(kinds, numbers);
     let offsets = check_banks(banks, 3, page);
     let sizes = check_banks(banks, 4, page);
     let units = check_banks(banks, 5, page);
-    let addrs = check_addrs(banks, kinds, operands, numbers, rows);
+    let addrs = check_addrs(banks, kinds, operands, numbers);
     let last = earlier(units, addrs);
     let placed = earlier(offsets, earlier(sizes, last));
     earlier(size, earlier(labels, earlier(aligns, placed)))
@@ -273,19 +225,14 @@ pub fn judge(
     values: &[u8],
     fill: u8,
     page: u32,
-) -> Verdict
+) -> Result<(), Refusal>
     ensures { result ≡ verdict_of banks
         (lists kinds.now operands.now numbers.now states.now rows values.now)
         fill page }
 {
-    let table = bankdef::check(banks);
-    if let Verdict::Refused(why) = table {
-        return Verdict::Refused(why);
-    }
-    let len = banks.len;
-    let listed = nodes::check_lists(len, kinds, operands, numbers, states, rows, values, fill);
-    if let Verdict::Refused(why) = listed {
-        return Verdict::Refused(why);
-    }
-    check_rules(banks, kinds, operands, numbers, rows, page)
+    bankdef::check(banks)?;
+    nodes::check_lists(
+        banks.len, kinds, operands, numbers, states, rows, values, fill,
+    )?;
+    check_rules(banks, kinds, operands, numbers, page)
 }

@@ -1,8 +1,6 @@
 -- Written items, the image's length and the image (document 01, "Image, spans, blocks"): lists made from the visits, and folds over them.
-use Rattle.std.specs.Prelude.{ℕ, ◌+◌, ◌≤◌, ◌<◌, max, Bool, List, [], ◌∷◌}
+use Rattle.std.specs.Prelude.{ℕ, ◌+◌, ◌≤◌, ◌<◌, max, Bool, List, [], ◌∷◌, Option, None, Some}
 use Rattle.prelude.specs.Pick.{pick}
-use Rattle.prelude.specs.declared.Offset.{Offset}
-use Rattle.prelude.specs.declared.Offset.TheVariants.{None as Nowhere, At as Out}
 use Rattle.nodes.specs.declared.Node.{Node}
 use Rattle.nodes.specs.Kinds.{is_item}
 use Rattle.bitvec.specs.Written.{written}
@@ -28,12 +26,12 @@ abbrev pub InItem : ℕ → Item → Type 0
 InItem bit x = (x.at ≤ bit) × (bit < end_of x)
 
 -- an item that stands somewhere in the output
-abbrev pub standing : Offset → Node → List Item
-standing Nowhere n = []
-standing (Out o) n = record { at = o; size = n.number; from = n.operand } ∷ []
+abbrev pub standing : Option ℕ → Node → List Item
+standing None n = []
+standing (Some o) n = record { at = o; size = n.number; from = n.operand } ∷ []
 
 -- the item of a node that is written, if it is
-abbrev pub item_at : Node → Offset → List Item
+abbrev pub item_at : Node → Option ℕ → List Item
 item_at n out = pick (is_written n) (standing out n) []
 
 abbrev pub item_of : Visit → List Item

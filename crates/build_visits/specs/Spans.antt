@@ -1,10 +1,8 @@
 -- The spans of a row (document 01, "Image, spans, blocks").
-use Rattle.std.specs.Prelude.{ℕ, Bool, List, [], ◌∷◌, ◌++◌, map, ℤ, pos, length, drop}
+use Rattle.std.specs.Prelude.{ℕ, Bool, List, [], ◌∷◌, ◌++◌, map, ℤ, pos, length, drop, Option, Result, Ok, Err}
 use Rattle.prelude.specs.Pick.{pick}
-use Rattle.prelude.specs.declared.Offset.{Offset}
+use Rattle.prelude.specs.declared.Refusal.{Refusal}
 use Rattle.iter.specs.Address.{address_of}
-use Rattle.iter.specs.declared.Address.{Address}
-use Rattle.iter.specs.declared.Address.TheVariants.{At, Refused}
 use Rattle.nodes.specs.Kinds.{is_span_kind, size_of}
 use Rattle.nodes.specs.declared.Node.{Node}
 use Rattle.blocks.specs.Offsets.{word_of}
@@ -14,16 +12,16 @@ use Rattle.build_visits.specs.Visits.{position_of, each}
 -- "Spans are labels (size 0) and written items in node order, with address and offset or none."
 pub record Span : Type 0 where
   pub address : ℤ
-  pub offset : Offset
+  pub offset : Option ℕ
   pub size : ℕ
 
 abbrev pub is_span : Node → Bool
 is_span n = is_span_kind n.kind
 
 -- the address of a position, in whole units; 0 in a bank that no address can be told of, which a sound table has none of
-abbrev pub address_told : Address → ℤ
-address_told (At address) = address
-address_told (Refused why) = pos 0
+abbrev pub address_told : Result ℤ Refusal → ℤ
+address_told (Ok address) = address
+address_told (Err why) = pos 0
 
 abbrev pub span_at : Visit → Span
 span_at v =

@@ -1,19 +1,18 @@
 -- What the build sees of a row: a list of visits, one for each node, in node order.
-use Rattle.std.specs.Prelude.{ℕ, zero, suc, List, [], ◌∷◌, ◌++◌, length}
+use Rattle.std.specs.Prelude.{ℕ, zero, suc, List, [], ◌∷◌, ◌++◌, length, Result, Ok, Err}
+use Rattle.prelude.specs.declared.Refusal.{Refusal}
 use Rattle.iter.specs.Address.{output_position}
 use Rattle.iter.specs.Step.{origin, bank_after}
 use Rattle.iter.specs.declared.Pos.{Pos}
 use Rattle.iter.specs.declared.Walk.{Walk}
-use Rattle.iter.specs.declared.Moved.{Moved}
-use Rattle.iter.specs.declared.Moved.TheVariants.{To, Refused as Stopped}
 use Rattle.nodes.specs.Lists.{Row}
 use Rattle.resolver.specs.Once.{Program, node, bank_of, step_at, walk_to}
 use Rattle.build_visits.specs.declared.Visit.{Visit}
 
 -- the position that a node sees; a node that the walk stops at sees none, and no build gets past it
-abbrev pub seen_pos : Moved → Pos
-seen_pos (To at) = at
-seen_pos (Stopped why) = origin
+abbrev pub seen_pos : Result Pos Refusal → Pos
+seen_pos (Ok at) = at
+seen_pos (Err why) = origin
 
 abbrev pub position_of : Visit → ℕ
 position_of v = (seen_pos v.seen).position

@@ -2,9 +2,9 @@
 #![tactic(auto)]
 
 use bankdef::Bankdef;
-use iter::{Moved, Walk};
+use iter::{Pos, Walk};
 use nodes::Node;
-use prelude::Offset;
+use prelude::Refusal;
 
 // A node, the bank that it stands in, the position that it sees, where that is in the output, and the walk after it.
 #[derive(Clone, Copy)]
@@ -12,7 +12,7 @@ pub struct Visit {
     pub node: Node,
     pub bank: u64,
     pub def: Bankdef,
-    pub seen: Moved,
-    pub out: Offset,
+    pub seen: Result<Pos, Refusal>,
+    pub out: Option<u64>,
     pub walk: Walk,
 }

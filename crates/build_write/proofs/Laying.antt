@@ -1,17 +1,18 @@
 -- The blank image laid bank by bank: what a bank's range of ones is, what one more bank makes of the image, and that it ends as the blank.
+use Rattle.std.specs.Prelude.{None, Some}
 use mathlib.Core.Path.{◌≡◌, refl, sym, ap, ◌∙◌, fun_ext}
 use mathlib.Core.Bool.{Bool, true, false, ◌&&◌, ◌||◌}
 use mathlib.Core.List.{List}
-use Prim.Native.Nat.{ℕ, zero, suc, ◌+◌, ◌*◌, ◌≤◌, ◌<◌, min}
+use Prim.Native.Nat.{ℕ, zero, suc, ◌+◌, ◌-◌, ◌*◌, ◌≤◌, ◌<◌, min}
 use native.Mathlib.Decide.{dec_lt}
 use native.Mathlib.Numerals.{add-one}
 use native.Mathlib.Omega.{arith}
 use borrow.Author.Tests.{ltb-true, lt-ltb, eqb-true}
 use lib.Dec.{ltb, eqb}
-use lib.ListN.{length, get_or, replicate, length-replicate, get_or-eq_default}
+use lib.ListN.{length, get_or, take, drop, replicate, length-replicate, length-take, get_or-eq_default}
+use lib.Seq.{get_or-take, get_or-drop}
 use Rattle.prelude.specs.Laws.Bools.{either, clash, both, unlike, or_right}
 use Rattle.prelude.specs.Pick.{pick}
-use Rattle.prelude.specs.declared.Opt.TheVariants.{None, Some}
 use Rattle.bankdef.specs.Check.{no_bank}
 use Rattle.bankdef.specs.FillBits.{fills_at, ones_at, fill_bit_at, FillsBit, One}
 use Rattle.bankdef.specs.Theorems.FillBits.{fills-exactly, one-exactly}
@@ -210,3 +211,11 @@ module _ (l : List Bankdef) (bits bytes : ℕ) where
   pub laid-all : (i : ℕ) → length l ≤ i → laid_to l bits bytes i ≡ blank_of l bits bytes
   unfolding blank_of
   laid-all i all = ap (of_bits bytes) (fun_ext (λ k. ap (λ (x : ℕ). pick (ltb k bits) x 0) (same-fill i all k)))
+
+-- the banks from bank 1 on, by number
+pub from-one : (l : List Bankdef) (n k : ℕ) → k < length (take (n - 1) (drop 1 l)) → get_or (take (n - 1) (drop 1 l)) k no_bank ≡ get_or (take n l) (1 + k) no_bank
+from-one l n k h =
+    let low : k < n - 1 = omega (arith, length-take (n - 1) (drop 1 l)) in
+    get_or-take (n - 1) (drop 1 l) k no_bank low
+    ∙ get_or-drop 1 l k no_bank
+    ∙ sym (get_or-take n l (1 + k) no_bank (omega arith))

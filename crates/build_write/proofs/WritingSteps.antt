@@ -1,4 +1,5 @@
 -- The second walk from node to node: the image, and the three lists of spans.
+use Rattle.std.specs.Prelude.{Option, None, Some}
 use Prim.Native.Nat.{ℕ, suc, ◌+◌, ◌*◌, ◌<◌, ◌≤◌}
 use mathlib.Core.Path.{◌≡◌, refl, sym, ap, subst, ◌∙◌}
 use mathlib.Core.Bool.{Bool, true, false}
@@ -9,13 +10,12 @@ use native.Mathlib.Omega.{arith}
 use borrow.Author.Tests.{le-leb}
 use lib.IntN.{ℤ}
 use lib.ListN.{length, set, length-map}
+use Rattle.prelude.specs.Limits.{max_banks}
 use Rattle.prelude.specs.Pick.{pick}
 use Rattle.prelude.specs.Laws.Pick.{pick_true}
-use Rattle.prelude.specs.declared.Offset.{Offset}
-use Rattle.prelude.specs.declared.Offset.TheVariants.{None as Nowhere, At as Out}
 use Rattle.bitvec.specs.Written.{written, is_written as passes_no_end}
 use Rattle.blocks.specs.Offsets.{word_of}
-use Rattle.iter.specs.Step.{start_of}
+use Rattle.iter.specs.Step.{start_of, bank_after}
 use Rattle.nodes.specs.declared.Node.{Node}
 use Rattle.iter.specs.declared.Walk.{Walk}
 use Rattle.nodes.specs.Lists.{Row}
@@ -24,6 +24,7 @@ use Rattle.resolver.specs.Laws.Walking.{walks-start}
 use Rattle.resolver.specs.Switches.{Switches}
 use Rattle.resolver.specs.Walking.{Walks}
 use Rattle.build_visits.specs.declared.Visit.{Visit}
+use Rattle.build_visits.specs.Sights.{Comes}
 use Rattle.build_visits.specs.Visits.{visit_at, visits}
 use Rattle.build_visits.specs.Laws.VisitLaws.{visit-member, each_member}
 use Rattle.build_visits.specs.Items.{is_written, standing, item_at, item_of, image_of}
@@ -36,22 +37,22 @@ use Rattle.build_write.proofs.WritingOver.{length-snoc, over-length, over-more}
 -- ---- one item
 
 module _ (image values : List ℕ) (n : Node) where
-  pub item-none : (out : Offset) → is_written n ≡ false → image ≡ image_of values image (item_at n out)
+  pub item-none : (out : Option ℕ) → is_written n ≡ false → image ≡ image_of values image (item_at n out)
   unfolding image_of
   item-none out e = rw e
 
-  pub item-nowhere : (out : Offset) → is_written n ≡ true → out ≡ Nowhere → image ≡ image_of values image (item_at n out)
+  pub item-nowhere : (out : Option ℕ) → is_written n ≡ true → out ≡ None → image ≡ image_of values image (item_at n out)
   unfolding image_of
   item-nowhere out w e = rw (w, e)
 
   -- an item that passes no end is written
-  pub item-written : {out : Offset} {o : ℕ} {after : List ℕ} → is_written n ≡ true → out ≡ Out o
+  pub item-written : {out : Option ℕ} {o : ℕ} {after : List ℕ} → is_written n ≡ true → out ≡ Some o
       → Fit (length values) (length image) (item_at n out)
       → after ≡ pick (passes_no_end image o values n.operand n.number) (written image o values n.operand n.number) image
       → after ≡ image_of values image (item_at n out)
   unfolding image_of
   item-written {o = o} w e fits a =
-      let own : Fit (length values) (length image) (standing (Out o) n) = rw (w, e) at fits in
+      let own : Fit (length values) (length image) (standing (Some o) n) = rw (w, e) at fits in
       let (inside, taken) = own _ (Memᴰ.head refl) in
       rw (w, e)
       (rw (le-leb (o + n.number) (8 * length image) inside, le-leb (n.operand + n.number) (8 * length values) taken) at a)
@@ -159,6 +160,11 @@ module _ (p : Program) (row : Row) where
 
 module _ {p : Program} {row : Row} {values blank : List ℕ} {old₁ : List ℤ} {old₂ old₃ : List ℕ} {i : ℕ} {walk : Walk} {count : ℕ} {image : List ℕ}
     {list₁ : List ℤ} {list₂ list₃ : List ℕ} (g : Writing p row values blank old₁ old₂ old₃ i walk count image list₁ list₂ list₃) where
+  -- the loop has come to node i of its row
+  pub comes : Switches p.banks.len p.kinds p.operands → length p.banks.defs ≡ max_banks → {n : Node} → n ≡ node p row i
+      → {b : ℕ} → b ≡ bank_after walk.bank n → Comes p row i walk b n
+  comes switches room met stands = record { switches = switches; room = room; walks = g.walks; met = met; stands = stands }
+
   pub same-image : length image ≡ length blank
   same-image = ap length g.drawn ∙ image-keeps p row values blank i
 

@@ -1,11 +1,11 @@
 // The image before any item is written.
-ghost use Rattle.std.specs.Prelude.{◌≡◌, length};
+ghost use Rattle.std.specs.Prelude.{◌≡◌, ◌≤◌, length};
+ghost use Rattle.prelude.specs.Limits.{max_banks};
 ghost use Rattle.bankdef.specs.Check.{banks_of};
 ghost use Rattle.build_write.specs.Blank.{blank_of};
 ghost use Rattle.build_write.specs.Steps.{OnesOf};
 
 use bankdef::{Bankdef, Bankdefs};
-use prelude::Opt;
 
 // Where a bank's fill bits are ones, up to the image's length: from one bit to before another.
 #[derive(Clone, Copy)]
@@ -24,37 +24,31 @@ fn no_ones() -> Ones
 fn ones_of(def: Bankdef, bits: u64) -> Ones
     ensures { OnesOf def bits result.from result.end }
 {
-    let fill = def.fill;
-    if !fill {
-        return no_ones();
-    }
-    let bit = def.fill_bit;
-    if bit != 1 {
+    if !def.fill || def.fill_bit != 1 {
         return no_ones();
     }
     let size = def.size;
-    let Opt::Some(size) = size else {
+    let Some(size) = size else {
         return no_ones();
     };
     let offset = def.offset;
-    let Opt::Some(offset) = offset else {
+    let Some(offset) = offset else {
         return no_ones();
     };
-    let from = offset as u64;
-    let end = from + (size as u64);
+    let from = u64::from(offset);
     Ones {
         from,
-        end: if end < bits { end } else { bits },
+        end: bits.min(from + u64::from(size)),
     }
 }
 
 // The image before any item is written: all clear, then ones where a bank's fill bit is one. "In a bank other than bank 0".
-pub fn lay_blank(banks: Bankdefs, bits: u64, image: &mut [u8])
+pub(crate) fn lay_blank(banks: Bankdefs, bits: u64, image: &mut [u8])
+    requires { (1 ≤ banks.len) × (banks.len ≤ max_banks) }
     ensures { image.new ≡ blank_of (banks_of banks) bits (length image.old) }
 {
     bitvec::clear(image);
-    for i in 1..banks.len {
-        let def = resolver::bank_record(banks, i);
+    for &def in &banks.defs[1..banks.len as usize] {
         let ones = ones_of(def, bits);
         bitvec::set_ones(image, ones.from, ones.end);
     }

@@ -21,23 +21,25 @@ ghost use Rattle.build_write.specs.Writes.{Fit, HasRoom};
 
 use crate::blank::lay_blank;
 use bankdef::{Bankdef, Bankdefs};
-use iter::{Address, Walk, bank_after, get_output_position, lost_after, pace, start};
+use iter::{Walk, bank_after, get_output_position, lost_after, pace, start};
 use nodes::{Node, is_span, is_written, node_at, size_of};
-use prelude::Offset;
 
 // A written item's bits, at its place in the image; any other node leaves the image as it is.
-fn write_item(node: Node, out: Offset, values: &[u8], image: &mut [u8])
+fn write_item(node: Node, out: Option<u64>, values: &[u8], image: &mut [u8])
     requires { Fit (length values.now) (length image.old) (item_at node out) }
     ensures { image.new ≡ image_of values.now image.old (item_at node out) }
 {
     if !is_written(node.kind) {
         return;
     }
-    match out {
-        Offset::None => {}
-        Offset::At(o) => {
-            bitvec::write_bits(image, o, values, node.operand as u64, node.number as u64);
-        }
+    if let Some(o) = out {
+        let _ = bitvec::write_bits(
+            image,
+            o,
+            values,
+            u64::from(node.operand),
+            u64::from(node.number),
+        );
     }
 }
 
@@ -47,8 +49,8 @@ fn address_of(def: Bankdef, position: u32, index: u64) -> i64
     ensures { result ≡ address_told (address_of def position index) }
 {
     match iter::get_address(def, position, index) {
-        Address::At(address) => address,
-        Address::Refused(_) => 0,
+        Ok(address) => address,
+        Err(_) => 0,
     }
 }
 
@@ -57,7 +59,7 @@ fn put_span(
     node: Node,
     def: Bankdef,
     position: u32,
-    out: Offset,
+    out: Option<u64>,
     count: usize,
     addresses: &mut [i64],
     offsets: &mut [u64],
@@ -75,7 +77,7 @@ fn put_span(
     }
     addresses[count] = address_of(def, position, node.index);
     offsets[count] = blocks::word_of(out);
-    sizes[count] = size_of(node) as u64;
+    sizes[count] = u64::from(size_of(node));
     count + 1
 }
 
@@ -117,6 +119,7 @@ fn write_walk(
 {
     let mut walk = begun;
     let mut count = 0;
+    // stays: node i is read from five lists at once; a zip of five is no plainer
     for i in 0..kinds.len() {
         let node = node_at(kinds, operands, first, numbers, states, i);
         let bank = bank_after(walk.bank, node);

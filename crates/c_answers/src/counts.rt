@@ -4,12 +4,7 @@ ghost use Rattle.c_answers.specs.Told.{counted, refused_count};
 ghost use Rattle.c_answers.specs.Counts.{blocks_count, hex_count, written_count, conversion_count, listed_count};
 
 use crate::{DkCount, first_of};
-use bitvec::Hex;
-use blocks::Blocks;
-use form_convert::Conversion;
-use overlay::Listed;
 use prelude::Refusal;
-use record_write::Written;
 
 // A refusal of a call that counts.
 pub fn tell_refusal(why: Refusal) -> DkCount
@@ -33,47 +28,47 @@ fn counted(count: u64) -> DkCount
     }
 }
 
-pub fn tell_blocks(found: Blocks) -> DkCount
+pub fn tell_blocks(found: Result<u64, Refusal>) -> DkCount
     ensures { result ≡ blocks_count found }
 {
     match found {
-        Blocks::Found(count) => counted(count),
-        Blocks::Refused(why) => tell_refusal(why),
+        Ok(count) => counted(count),
+        Err(why) => tell_refusal(why),
     }
 }
 
-pub fn tell_hex(hex: Hex) -> DkCount
+pub fn tell_hex(hex: Result<u64, Refusal>) -> DkCount
     ensures { result ≡ hex_count hex }
 {
     match hex {
-        Hex::Digits(count) => counted(count),
-        Hex::Refused(why) => tell_refusal(why),
+        Ok(count) => counted(count),
+        Err(why) => tell_refusal(why),
     }
 }
 
-pub fn tell_written(written: Written) -> DkCount
+pub fn tell_written(written: Result<u64, Refusal>) -> DkCount
     ensures { result ≡ written_count written }
 {
     match written {
-        Written::Length(count) => counted(count),
-        Written::Refused(why) => tell_refusal(why),
+        Ok(count) => counted(count),
+        Err(why) => tell_refusal(why),
     }
 }
 
-pub fn tell_conversion(done: Conversion) -> DkCount
+pub fn tell_conversion(done: Result<u64, Refusal>) -> DkCount
     ensures { result ≡ conversion_count done }
 {
     match done {
-        Conversion::Converted(count) => counted(count),
-        Conversion::Refused(why) => tell_refusal(why),
+        Ok(count) => counted(count),
+        Err(why) => tell_refusal(why),
     }
 }
 
-pub fn tell_listed(listed: Listed) -> DkCount
+pub fn tell_listed(listed: Result<u64, Refusal>) -> DkCount
     ensures { result ≡ listed_count listed }
 {
     match listed {
-        Listed::Runs(count) => counted(count),
-        Listed::Refused(why) => tell_refusal(why),
+        Ok(count) => counted(count),
+        Err(why) => tell_refusal(why),
     }
 }

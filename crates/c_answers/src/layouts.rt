@@ -5,8 +5,7 @@ ghost use Rattle.c_answers.specs.Told.{layout_told, profile_told};
 use crate::{DkLayout, DkProfile, first_of, second_of};
 use build_profile::Paged;
 use iter::Lost;
-use output::{Build, Output};
-use prelude::Verdict;
+use output::{Built, Output};
 
 // A build's answer in document 01's figures.
 pub fn tell_layout(output: Output) -> DkLayout
@@ -16,7 +15,7 @@ pub fn tell_layout(output: Output) -> DkLayout
     let padding = output.padding;
     let build = output.build;
     match build {
-        Build::Done { k, length, spans } => DkLayout {
+        Ok(Built { k, length, spans }) => DkLayout {
             refusal: 0,
             place: 0,
             second: 0,
@@ -26,7 +25,7 @@ pub fn tell_layout(output: Output) -> DkLayout
             spans,
             padding,
         },
-        Build::Refused(why) => {
+        Err(why) => {
             let place = prelude::place_of(why);
             let none = Lost { bits: 0, units: 0 };
             DkLayout {
@@ -49,13 +48,13 @@ pub fn tell_paged(paged: Paged) -> DkProfile
     let pages = paged.pages;
     let verdict = paged.verdict;
     match verdict {
-        Verdict::Accepted => DkProfile {
+        Ok(()) => DkProfile {
             refusal: 0,
             place: 0,
             second: 0,
             pages,
         },
-        Verdict::Refused(why) => {
+        Err(why) => {
             let place = prelude::place_of(why);
             DkProfile {
                 refusal: prelude::number(why),

@@ -3,9 +3,9 @@ ghost use Rattle.std.specs.Prelude.{◌≡◌};
 ghost use Rattle.c_answers.specs.Maps.{refused_below, stopped_from, node_told, refused_map, map_told};
 
 use crate::{DkMap, first_of, second_of};
-use build_map::{Fault, Map};
+use build_map::Map;
 use iter::Lost;
-use prelude::{Refusal, Verdict};
+use prelude::Refusal;
 
 // A refusal's number where it is below 5, and where it is not.
 fn below(number: u64) -> u64
@@ -20,12 +20,12 @@ fn from(number: u64) -> u64
     if number < 5 { 0 } else { number }
 }
 
-fn node_of(fault: Fault) -> u64
+fn node_of(fault: Option<u64>) -> u64
     ensures { result ≡ node_told fault }
 {
     match fault {
-        Fault::None => 18_446_744_073_709_551_615,
-        Fault::At(node) => node,
+        None => 18_446_744_073_709_551_615,
+        Some(node) => node,
     }
 }
 
@@ -58,7 +58,7 @@ pub fn tell_map(map: Map) -> DkMap
     let node = node_of(fault);
     let verdict = map.verdict;
     match verdict {
-        Verdict::Accepted => DkMap {
+        Ok(()) => DkMap {
             refusal: 0,
             stopped: 0,
             place: 0,
@@ -68,6 +68,6 @@ pub fn tell_map(map: Map) -> DkMap
             nodes,
             padding,
         },
-        Verdict::Refused(why) => tell_refused(why, node, passes, nodes, padding),
+        Err(why) => tell_refused(why, node, passes, nodes, padding),
     }
 }

@@ -4,22 +4,21 @@ ghost use Rattle.c_answers.specs.Parts.{part_by, overlay_by, extent_told, line_t
 
 use crate::{DkExtent, DkFault, DkOverlay, DkPart, DkReason};
 use overlay::Source;
-use prelude::Verdict;
+use prelude::Refusal;
 use record_extent::Extent;
 use record_reason::Why;
-use record_scan::Fault;
 
 // The block of `size` bits from bit `offset` on, in bytes.
-pub fn tell_part(verdict: Verdict, offset: u64, size: u64) -> DkPart
+pub fn tell_part(verdict: Result<(), Refusal>, offset: u64, size: u64) -> DkPart
     ensures { result ≡ part_by offset size verdict }
 {
     match verdict {
-        Verdict::Accepted => DkPart {
+        Ok(()) => DkPart {
             refusal: 0,
             start: offset / 8,
             length: size / 8,
         },
-        Verdict::Refused(why) => DkPart {
+        Err(why) => DkPart {
             refusal: prelude::number(why),
             start: 0,
             length: 0,
@@ -28,23 +27,23 @@ pub fn tell_part(verdict: Verdict, offset: u64, size: u64) -> DkPart
 }
 
 // The `count` bytes from byte `first` on.
-pub fn tell_source(source: Source, first: u64, count: u64) -> DkOverlay
+pub fn tell_source(source: Result<Source, Refusal>, first: u64, count: u64) -> DkOverlay
     ensures { result ≡ overlay_by first count source }
 {
     match source {
-        Source::Overlay => DkOverlay {
+        Ok(Source::Overlay) => DkOverlay {
             refusal: 0,
             image: 1,
             start: first,
             length: count,
         },
-        Source::Released => DkOverlay {
+        Ok(Source::Released) => DkOverlay {
             refusal: 0,
             image: 2,
             start: first,
             length: count,
         },
-        Source::Refused(why) => DkOverlay {
+        Err(why) => DkOverlay {
             refusal: prelude::number(why),
             image: 0,
             start: 0,
@@ -53,16 +52,16 @@ pub fn tell_source(source: Source, first: u64, count: u64) -> DkOverlay
     }
 }
 
-pub fn tell_extent(extent: Extent) -> DkExtent
+pub fn tell_extent(extent: Result<Extent, Refusal>) -> DkExtent
     ensures { result ≡ extent_told extent }
 {
     match extent {
-        Extent::Spans(lowest, end) => DkExtent {
+        Ok(extent) => DkExtent {
             refusal: 0,
-            lowest,
-            end,
+            lowest: extent.lowest,
+            end: extent.end,
         },
-        Extent::Refused(why) => DkExtent {
+        Err(why) => DkExtent {
             refusal: prelude::number(why),
             lowest: 0,
             end: 0,
@@ -70,12 +69,12 @@ pub fn tell_extent(extent: Extent) -> DkExtent
     }
 }
 
-pub fn tell_fault(fault: Fault) -> DkFault
+pub fn tell_fault(fault: Option<u64>) -> DkFault
     ensures { result ≡ line_told fault }
 {
     match fault {
-        Fault::Good => DkFault { fault: 0, line: 0 },
-        Fault::At(line) => DkFault { fault: 1, line },
+        None => DkFault { fault: 0, line: 0 },
+        Some(line) => DkFault { fault: 1, line },
     }
 }
 

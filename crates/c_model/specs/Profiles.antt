@@ -1,6 +1,5 @@
 -- The profile of a device with pages, and a build in it, as a caller in another language is told of them.
-use Rattle.std.specs.Prelude.{◌≡◌, ℕ}
-use Rattle.prelude.specs.declared.Opt.TheVariants.{Some}
+use Rattle.std.specs.Prelude.{◌≡◌, ℕ, Some}
 use Rattle.bankdef.specs.declared.Bankdefs.{Bankdefs}
 use Rattle.nodes.specs.Lists.{Lists}
 use Rattle.build_profile.specs.Profile.{profile_of}

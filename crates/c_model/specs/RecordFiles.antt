@@ -1,7 +1,7 @@
 -- Intel HEX and S-records, written and read, as a caller in another language is told of them.
-use Rattle.std.specs.Prelude.{◌≡◌, List, ℕ, ltb}
+use Rattle.std.specs.Prelude.{◌≡◌, List, ℕ, ltb, Result}
 use Rattle.prelude.specs.Pick.{pick}
-use Rattle.record_write.specs.declared.Written.{Written}
+use Rattle.prelude.specs.declared.Refusal.{Refusal}
 use Rattle.record_scan.specs.Reading.{Read, faulty, read_text}
 use Rattle.record_scan.specs.Outcome.{fault_of}
 use Rattle.record_extent.specs.Extent.{extent_of}
@@ -13,7 +13,7 @@ use Rattle.c_answers.specs.declared.DkExtent.{DkExtent}
 use Rattle.c_answers.specs.declared.DkFault.{DkFault}
 
 -- What `dk_write_hex` and `dk_write_srec` promise: a writer's answer, told in numbers, and every character of the lent text.
-pub record WriteTold (answer : Written) (after : List ℕ) (r : DkCount) (new : List ℕ) : Type 0 where
+pub record WriteTold (answer : Result ℕ Refusal) (after : List ℕ) (r : DkCount) (new : List ℕ) : Type 0 where
   pub told : r ≡ written_count answer
   pub text : new ≡ after
 

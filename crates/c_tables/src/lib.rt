@@ -7,7 +7,6 @@ ghost use Rattle.c_tables.specs.Tables.{unit_of, bank_of, given, banks_in, agree
 
 use bankdef::{Bankdef, Bankdefs};
 use form_fields::{is_set, option};
-use prelude::Opt;
 use resolver::Choices;
 
 // A bank with flags that mean nothing has no unit either, so that it is refused like any other whose numbers are beyond their limits.
@@ -60,12 +59,13 @@ fn make_table(
     let mut defs = [Bankdef {
         unit: 0,
         start: 0,
-        size: Opt::None,
-        offset: Opt::None,
-        align: Opt::None,
+        size: None,
+        offset: None,
+        align: None,
         fill: false,
         fill_bit: 0,
     }; 16];
+    // stays: an index into seven lists at once; a zip of seven is no plainer
     for i in 0..count {
         let bank = make_bank(
             units[i], starts[i], sizes[i], offsets[i], aligns[i], flags[i], bits[i],
@@ -80,12 +80,6 @@ fn agreed(len: usize, wanted: usize, count: usize) -> usize
     ensures { result ≡ agree len wanted count }
 {
     if len == wanted { count } else { 0 }
-}
-
-fn at_most_16(n: usize) -> usize
-    ensures { result ≡ min n 16 }
-{
-    if n < 16 { n } else { 16 }
 }
 
 // The table of banks; lists of different lengths make one without banks.
@@ -108,7 +102,7 @@ pub fn make_banks(
     let with_aligns = agreed(aligns.len(), n, with_offsets);
     let with_flags = agreed(flags.len(), n, with_aligns);
     let count = agreed(bits.len(), n, with_flags);
-    let held = at_most_16(count);
+    let held = count.min(16);
     Bankdefs {
         defs: make_table(units, starts, sizes, offsets, aligns, flags, bits, held),
         len: count as u64,

@@ -1,8 +1,8 @@
 -- The build of a file is told as it is.
+use Rattle.std.specs.Prelude.{Option}
 use mathlib.Core.Path.{◌≡◌, ap, subst, ◌∙◌}
 use mathlib.Core.List.{List}
 use Prim.Native.Nat.{ℕ}
-use Rattle.prelude.specs.declared.Opt.{Opt}
 use Rattle.output.specs.Output.{Lent}
 use Rattle.output.specs.declared.Output.{Output}
 use Rattle.form_build.specs.Filed.{FileBuilt}
@@ -10,7 +10,7 @@ use Rattle.c_answers.specs.Told.{layout_told}
 use Rattle.c_answers.specs.declared.DkLayout.{DkLayout}
 use Rattle.c_model.specs.Forms.{FormTold}
 
-pub form-told : {file : List ℕ} {fill : ℕ} {page : Opt} {old new : Lent} {r : Output} {t : DkLayout} → t ≡ layout_told r
+pub form-told : {file : List ℕ} {fill : ℕ} {page : Option ℕ} {old new : Lent} {r : Output} {t : DkLayout} → t ≡ layout_told r
     → FileBuilt file fill page old r new → FormTold file fill page old t new
 form-told {file} {fill} {page} {old} {new} told built =
     record {

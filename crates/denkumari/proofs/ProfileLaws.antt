@@ -1,7 +1,7 @@
 -- What the profile says of a table, and a build in it, are told as they are.
+use Rattle.std.specs.Prelude.{Some}
 use mathlib.Core.Path.{◌≡◌, ap, subst, ◌∙◌}
 use Prim.Native.Nat.{ℕ}
-use Rattle.prelude.specs.declared.Opt.TheVariants.{Some}
 use Rattle.bankdef.specs.declared.Bankdefs.{Bankdefs}
 use Rattle.nodes.specs.Lists.{Lists}
 use Rattle.resolver.specs.declared.Choices.{Choices}

@@ -3,7 +3,7 @@ use mathlib.Core.Path.{◌≡◌, refl, sym, ap, ap₂, ◌∙◌}
 use mathlib.Core.List.{List}
 use Prim.Native.Nat.{ℕ}
 use Rattle.prelude.specs.Told.{Told, gives, refuses, Nothing, told_verdict}
-use Rattle.prelude.specs.declared.Verdict.{Verdict}
+use Rattle.prelude.specs.Verdict.{Verdict}
 use Rattle.overlap_checker.specs.declared.Entry.{Entry}
 use Rattle.overlap_checker.specs.State.{after}
 use Rattle.overlap_checker.specs.Lent.{Lent, lent, state_in, laid_into, leaving, call_figures, Calls}

@@ -3,7 +3,6 @@ ghost use Rattle.says.specs.Form.{FormSays};
 ghost use Rattle.says.specs.FormPaged.{FormPagedSays};
 
 use c_answers::{DkLayout, tell_layout};
-use prelude::Opt;
 
 // Lays a file of either form out, with the fill's choice: the image, and the spans in three lists. A refused call changes nothing that is lent.
 pub fn dk_form(
@@ -21,7 +20,7 @@ pub fn dk_form(
           lent = record { image = image.new; addresses = addresses.new; offsets = offsets.new; sizes = sizes.new };
         }) }
 {
-    tell_layout(form_build::build_file(file, fill, Opt::None, image, addresses, offsets, sizes))
+    tell_layout(form_build::build_file(file, fill, None, image, addresses, offsets, sizes))
 }
 
 // The same in the profile of a device with pages of `page` bits: the image, and the spans in three lists. A refused call changes nothing that is lent.
@@ -41,13 +40,5 @@ pub fn dk_form_paged(
           lent = record { image = image.new; addresses = addresses.new; offsets = offsets.new; sizes = sizes.new };
         }) }
 {
-    tell_layout(form_build::build_file(
-        file,
-        fill,
-        Opt::Some(page),
-        image,
-        addresses,
-        offsets,
-        sizes,
-    ))
+    tell_layout(form_build::build_file(file, fill, Some(page), image, addresses, offsets, sizes))
 }

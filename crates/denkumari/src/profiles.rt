@@ -4,7 +4,6 @@ ghost use Rattle.says.specs.Paged.{PagedSays};
 
 use c_answers::{DkLayout, DkProfile, tell_layout, tell_paged};
 use c_tables::{choose, make_banks};
-use prelude::Opt;
 
 // Whether tables keep the profile of a device with pages of `page` bits.
 pub fn dk_profile(
@@ -116,7 +115,7 @@ pub fn dk_build_paged(
     );
     let choices = choose(limit, fill, closed);
     tell_layout(form_build::build_with(
-        Opt::Some(page),
+        Some(page),
         banks,
         kinds,
         operands,

@@ -3,11 +3,8 @@ ghost use Rattle.says.specs.Write.{HexSays, SrecSays};
 ghost use Rattle.says.specs.Extent.{ExtentSays};
 ghost use Rattle.says.specs.Read.{ReadSays, FaultSays};
 
-use blocks::Blocks;
 use c_answers::{DkCount, DkExtent, DkFault, tell_blocks, tell_extent, tell_fault, tell_written};
 use prelude::Refusal;
-use record_extent::Extent;
-use record_scan::Fault;
 
 // Format 0 is Intel HEX, 1 S-records. There is no other.
 const FORMATS: u8 = 2;
@@ -61,7 +58,7 @@ pub fn dk_read_records(
         }) }
 {
     if format >= FORMATS {
-        return tell_blocks(Blocks::Refused(Refusal::Malformed(0)));
+        return tell_blocks(Err(Refusal::Malformed(0)));
     }
     tell_blocks(record_read::read(format, text, load, bytes, offsets, sizes, scratch))
 }
@@ -71,7 +68,7 @@ pub fn dk_record_extent(format: u8, text: &[u8], scratch: &mut [u8]) -> DkExtent
     ensures { ExtentSays format text.now scratch.old (result, scratch.new) }
 {
     if format >= FORMATS {
-        return tell_extent(Extent::Refused(Refusal::Malformed(0)));
+        return tell_extent(Err(Refusal::Malformed(0)));
     }
     tell_extent(record_extent::extent_of(format, text, scratch))
 }
@@ -81,7 +78,7 @@ pub fn dk_record_fault(format: u8, text: &[u8], load: u32, scratch: &mut [u8]) -
     ensures { FaultSays format load text.now scratch.old (result, scratch.new) }
 {
     if format >= FORMATS {
-        return tell_fault(Fault::At(0));
+        return tell_fault(Some(0));
     }
     tell_fault(record_scan::line_at_fault(format, text, load, scratch))
 }

@@ -1,4 +1,5 @@
 -- The build over the lists of a sound file is the build of the file.
+use Rattle.std.specs.Prelude.{Option, Err, Ok}
 use mathlib.Core.Path.{◌≡◌, refl, sym, ap, subst, ◌∙◌}
 use mathlib.Core.List.{List}
 use Prim.Native.Nat.{ℕ, ◌*◌}
@@ -6,26 +7,24 @@ use lib.ListN.{take}
 use Rattle.prelude.specs.declared.Refusal.{Refusal}
 use Rattle.bankdef.specs.declared.Bankdefs.{Bankdefs}
 use Rattle.form_fields.specs.declared.Shape.{Shape}
-use Rattle.form_fields.specs.declared.Form.TheVariants.{Sound, Broken}
 use Rattle.form_fields.specs.Shape.{form_of}
 use Rattle.form_fields.specs.Banks.{table_of}
 use Rattle.form_fields.specs.Lists.{kinds_of, operands_of, numbers_of, states_of, values_by}
 use Rattle.form_fields.specs.Theorems.Filled.{places}
 use Rattle.nodes.specs.Lists.{lists}
 use Rattle.resolver.specs.declared.Choices.{Choices}
-use Rattle.prelude.specs.declared.Opt.{Opt}
 use Rattle.output.specs.Output.{input, Lent, room_of, refused_after}
 use Rattle.output.specs.declared.Output.{Output}
 use Rattle.form_build.specs.Paged.{BuiltIn}
 use Rattle.form_build.specs.Filed.{choices_of, FileBuilt, HeldIn, lists_in, output_by}
 
-module _ (file : List ℕ) (fill : ℕ) (page : Opt) (old : Lent) where
+module _ (file : List ℕ) (fill : ℕ) (page : Option ℕ) (old : Lent) where
   -- a broken file
-  pub broken : (why : Refusal) → form_of file ≡ Broken why → FileBuilt file fill page old (refused_after 0 why) old
+  pub broken : (why : Refusal) → form_of file ≡ Err why → FileBuilt file fill page old (refused_after 0 why) old
   broken why e = record { answer = sym (ap (output_by file fill page (room_of old)) e); left = refl }
 
   -- a sound one
-  module _ (s : Shape) (sound : form_of file ≡ Sound s) {r : Output} {new : Lent} where
+  module _ (s : Shape) (sound : form_of file ≡ Ok s) {r : Output} {new : Lent} where
     as_read : BuiltIn page (input (table_of file) (lists_in file) (choices_of s fill)) old r new → FileBuilt file fill page old r new
     as_read b = record { answer = b.answer ∙ sym (ap (output_by file fill page (room_of old)) sound); left = b.left }
 

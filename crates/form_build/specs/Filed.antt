@@ -1,9 +1,7 @@
 -- A layout file, laid out: what it says goes to the build.
-use Rattle.std.specs.Prelude.{◌≡◌, List, ℕ, ◌*◌, ◌≤◌, eqb, length, take}
+use Rattle.std.specs.Prelude.{◌≡◌, List, ℕ, ◌*◌, ◌≤◌, eqb, length, take, Option, Result, Err, Ok}
+use Rattle.prelude.specs.declared.Refusal.{Refusal}
 use Rattle.form_fields.specs.declared.Shape.{Shape}
-use Rattle.form_fields.specs.declared.Form.{Form}
-use Rattle.form_fields.specs.declared.Form.TheVariants.{Sound, Broken}
-use Rattle.prelude.specs.declared.Opt.{Opt}
 use Rattle.form_fields.specs.Shape.{form_of, row_count}
 use Rattle.form_fields.specs.Banks.{table_of}
 use Rattle.form_fields.specs.Lists.{kinds_of, operands_of, numbers_of, states_of, values_by}
@@ -27,11 +25,11 @@ abbrev pub choices_of : Shape → ℕ → Choices
 choices_of s fill = record { limit = s.limit; fill = fill; closed = eqb s.form 2 }
 
 -- "A broken file .. is 4 with the first such field's index", and no pass runs; a sound one is built.
-abbrev pub output_by : List ℕ → ℕ → Opt → Room → Form → Output
-output_by file fill page room (Broken why) = refused_after 0 why
-output_by file fill page room (Sound s) = output_in page (input (table_of file) (lists_in file) (choices_of s fill)) room
+abbrev pub output_by : List ℕ → ℕ → Option ℕ → Room → Result Shape Refusal → Output
+output_by file fill page room (Err why) = refused_after 0 why
+output_by file fill page room (Ok s) = output_in page (input (table_of file) (lists_in file) (choices_of s fill)) room
 
-abbrev pub file_output : List ℕ → ℕ → Opt → Room → Output
+abbrev pub file_output : List ℕ → ℕ → Option ℕ → Room → Output
 file_output file fill page room = output_by file fill page room (form_of file)
 
 -- a file's nodes, visited in the row of the last of so many passes
@@ -39,13 +37,13 @@ abbrev pub file_visits : List ℕ → ℕ → List Visit
 file_visits file passes = visits (program (table_of file) (lists_in file)) (row_of_pass (lists_in file) passes)
 
 -- The build of a file: its answer, and everything lent afterwards.
-pub record FileBuilt (file : List ℕ) (fill : ℕ) (page : Opt) (old : Lent) (r : Output) (new : Lent) : Type 0 where
+pub record FileBuilt (file : List ℕ) (fill : ℕ) (page : Option ℕ) (old : Lent) (r : Output) (new : Lent) : Type 0 where
   pub answer : r ≡ file_output file fill page (room_of old)
   pub left : new ≡ left_by (table_of file) (file_visits file r.passes) (lists_in file).values old r.build
 
 -- The lists of a sound file stand in the front of four lists.
 pub record HeldIn (file : List ℕ) (s : Shape) (kinds operands numbers states : List ℕ) : Type 0 where
-  pub sound : form_of file ≡ Sound s
+  pub sound : form_of file ≡ Ok s
   pub few : s.rows * s.nodes ≤ 65536
   pub kinds-fit : s.nodes ≤ length kinds
   pub operands-fit : s.nodes ≤ length operands

@@ -10,10 +10,9 @@ ghost use Rattle.form_build.specs.Paged.{BuiltIn};
 ghost use Rattle.form_build.specs.Filed.{choices_of, FileBuilt, HeldIn};
 
 use bankdef::Bankdefs;
-use form_fields::{Form, Shape};
+use form_fields::Shape;
 use iter::Lost;
-use output::{Build, Output};
-use prelude::Opt;
+use output::Output;
 use resolver::Choices;
 
 // Room for the lists of any sound file. A node takes 8 of its 65,536 bytes, and 5 more in each row.
@@ -35,7 +34,7 @@ pub fn chosen(shape: Shape, fill: u8) -> Choices
 
 // The build, in the profile of a device with pages of so many bits where a page size is given. A refused call changes nothing that is lent.
 pub fn build_with(
-    page: Opt,
+    page: Option<u32>,
     banks: Bankdefs,
     kinds: &[u8],
     operands: &[u32],
@@ -57,11 +56,11 @@ pub fn build_with(
         (lent image.new addresses.new offsets.new sizes.new) }
 {
     match page {
-        Opt::None => output::build_output(
+        None => output::build_output(
             banks, kinds, operands, numbers, states, rows, values, choices, image, addresses,
             offsets, sizes,
         ),
-        Opt::Some(bits) => build_paged::build_in_profile(
+        Some(bits) => build_paged::build_in_profile(
             bits, banks, kinds, operands, numbers, states, rows, values, choices, image, addresses,
             offsets, sizes,
         ),
@@ -73,7 +72,7 @@ fn build_read(
     file: &[u8],
     shape: Shape,
     fill: u8,
-    page: Opt,
+    page: Option<u32>,
     kinds: &[u8],
     operands: &[u32],
     numbers: &[u32],
@@ -112,7 +111,7 @@ fn build_read(
 pub fn build_file(
     file: &[u8],
     fill: u8,
-    page: Opt,
+    page: Option<u32>,
     image: &mut [u8],
     addresses: &mut [i64],
     offsets: &mut [u64],
@@ -123,20 +122,26 @@ pub fn build_file(
         (lent image.new addresses.new offsets.new sizes.new) }
 {
     match form_fields::read_shape(file) {
-        Form::Broken(why) => {
+        Err(why) => {
             let none = Lost { bits: 0, units: 0 };
             Output {
-                build: Build::Refused(why),
+                build: Err(why),
                 passes: 0,
                 padding: [none; 16],
             }
         }
-        Form::Sound(shape) => {
+        Ok(shape) => {
             let mut kinds = [0u8; ROOM];
             let mut operands = [0u32; ROOM];
             let mut numbers = [0u32; CELLS];
             let mut states = [0u8; CELLS];
-            form_lists::read_lists(file, &mut kinds, &mut operands, &mut numbers, &mut states);
+            let _ = form_lists::read_lists(
+                file,
+                &mut kinds,
+                &mut operands,
+                &mut numbers,
+                &mut states,
+            );
             build_read(
                 file, shape, fill, page, &kinds, &operands, &numbers, &states, image, addresses,
                 offsets, sizes,

@@ -1,4 +1,5 @@
 -- What the code finds in a file of form 2 is what the definitions name.
+use Rattle.std.specs.Prelude.{Err, Ok}
 use mathlib.Core.Bool.{Bool, true, false, not, ◌&&◌}
 use mathlib.Core.List.{List, [], ◌∷◌, ◌++◌}
 use mathlib.Core.Path.{◌≡◌, refl, sym, ap, ap₂, ◌∙◌}
@@ -24,7 +25,6 @@ use Rattle.form_rewrite.specs.Fitting.{Read}
 use Rattle.form_rewrite.specs.Laws.Fitting.{shortened-long, narrowed-long, shape_two, shape-some}
 use Rattle.form_rewrite.specs.Laws.PartLaws.{part-front, part-back, part_at}
 use Rattle.form_rewrite.specs.Laws.Sizes.{fits, banks-many, nodes-many, rows-many, banks-in, nodes-in, rows_in, nodes-at, rows_at, file-long}
-use Rattle.form_convert.specs.declared.Conversion.TheVariants.{Converted, Refused}
 use Rattle.form_convert.specs.Convert.{stray, answer_of, answer_for, ToForm1}
 use Rattle.form_convert.proofs.Laws.{all_same}
 
@@ -196,10 +196,10 @@ module _ (file : List ℕ) (s : Shape) (r : Read form2 file s) where
       let clear = d ∙ clear-is in
       λ i. answer_of (most i) (rows i) (p i) (nodes i) (z i) 65000 (not (clear i)) room
 
-  pub back-refuses : {old : List ℕ} {why : Refusal} → answer_for form1 c₂ (to_form1 c₂) (drops_bit c₂) (length old) ≡ Refused why
-      → ToForm1 file old (Refused why) old
+  pub back-refuses : {old : List ℕ} {why : Refusal} → answer_for form1 c₂ (to_form1 c₂) (drops_bit c₂) (length old) ≡ Err why
+      → ToForm1 file old (Err why) old
   back-refuses {old} e = record { is = sym e ∙ rw r.sound refl; out = refl }
 
-  pub back-converts : {old new : List ℕ} {n : ℕ} → answer_for form1 c₂ (to_form1 c₂) (drops_bit c₂) (length old) ≡ Converted n
-      → new ≡ written form1 (to_form1 c₂) ++ drop (length (written form1 (to_form1 c₂))) old → ToForm1 file old (Converted n) new
+  pub back-converts : {old new : List ℕ} {n : ℕ} → answer_for form1 c₂ (to_form1 c₂) (drops_bit c₂) (length old) ≡ Ok n
+      → new ≡ written form1 (to_form1 c₂) ++ drop (length (written form1 (to_form1 c₂))) old → ToForm1 file old (Ok n) new
   back-converts {old} {new} e f = record { is = sym e ∙ rw r.sound refl; out = f }

@@ -1,4 +1,5 @@
 -- What the code finds in a file of form 1 is what the answer's definition names.
+use Rattle.std.specs.Prelude.{Err, Ok}
 use mathlib.Core.Bool.{Bool, true, false}
 use mathlib.Core.List.{List, ◌++◌}
 use mathlib.Core.Path.{◌≡◌, refl, sym, ap₂, ◌∙◌}
@@ -23,7 +24,6 @@ use Rattle.form_rewrite.specs.Turning.{strays, turned, to_form2}
 use Rattle.form_rewrite.specs.Fitting.{Read}
 use Rattle.form_rewrite.specs.Theorems.Fitting.{lengthened-long, widened-long}
 use Rattle.form_rewrite.specs.Laws.Sizes.{fits, banks-many, nodes-many, rows-many, nodes-in, nodes-at, file-long, one-is, alone-is, alone-not}
-use Rattle.form_convert.specs.declared.Conversion.TheVariants.{Converted, Refused}
 use Rattle.form_convert.specs.Convert.{stray, answer_of, answer_for, ToForm2}
 
 module _ (file : List ℕ) (s : Shape) (r : Read form1 file s) where
@@ -62,21 +62,21 @@ module _ (file : List ℕ) (s : Shape) (r : Read form1 file s) where
       let rows = rows-many is1 file s r in
       λ i. answer_of (p i) (rows i) (q i) (nodes i) (z i) 65536 false room
 
-  pub refuses : {old : List ℕ} {why : Refusal} → answer_for form2 c₁ (to_form2 c₁) false (length old) ≡ Refused why → ToForm2 file old (Refused why) old
+  pub refuses : {old : List ℕ} {why : Refusal} → answer_for form2 c₁ (to_form2 c₁) false (length old) ≡ Err why → ToForm2 file old (Err why) old
   refuses {old} e = record { is = sym e ∙ rw r.sound refl; out = refl }
 
-  pub converts : {old new : List ℕ} {n : ℕ} → answer_for form2 c₁ (to_form2 c₁) false (length old) ≡ Converted n
-      → new ≡ written form2 (to_form2 c₁) ++ drop (length (written form2 (to_form2 c₁))) old → ToForm2 file old (Converted n) new
+  pub converts : {old new : List ℕ} {n : ℕ} → answer_for form2 c₁ (to_form2 c₁) false (length old) ≡ Ok n
+      → new ≡ written form2 (to_form2 c₁) ++ drop (length (written form2 (to_form2 c₁))) old → ToForm2 file old (Ok n) new
   converts {old} {new} e f = record { is = sym e ∙ rw r.sound refl; out = f }
 
 -- ---- the answer
 
-never : {A : Type 0} {why : Refusal} {m : ℕ} → Refused why ≡ Converted m → A
+never : {A : Type 0} {why : Refusal} {m : ℕ} → Err why ≡ Ok m → A
 never f = unlike cc
 
 taken : (a b d l s t : Bool) (r₁ r₂ r₃ r₄ r₅ r₆ : Refusal) (size n : ℕ)
-    → pick a (Refused r₁) (pick b (Refused r₂) (pick d (Refused r₃) (pick l (Refused r₄) (pick s (Refused r₅) (pick t (Refused r₆) (Converted size))))))
-    ≡ Converted n
+    → pick a (Err r₁) (pick b (Err r₂) (pick d (Err r₃) (pick l (Err r₄) (pick s (Err r₅) (pick t (Err r₆) (Ok size))))))
+    ≡ Ok n
     → (t ≡ false) × (n ≡ size)
 taken true b d l s t r₁ r₂ r₃ r₄ r₅ r₆ size n e = never e
 taken false true d l s t r₁ r₂ r₃ r₄ r₅ r₆ size n e = never e
@@ -88,7 +88,7 @@ taken false false false false false false r₁ r₂ r₃ r₄ r₅ r₆ size n e
 
 -- A result that is taken has its length, and room.
 pub converted-room : (nodes rows first count size longest room : ℕ) (drops : Bool) {n : ℕ}
-    → answer_of nodes rows first count size longest drops room ≡ Converted n → size ≤ room
+    → answer_of nodes rows first count size longest drops room ≡ Ok n → size ≤ room
 unfolding answer_of
 converted-room nodes rows first count size longest room drops {n} e =
     let t = taken (ltb max_nodes nodes) (ltb max_rows rows) (ltb first count) (ltb longest size) drops (ltb room size) (Malformed 0) (Malformed 1)

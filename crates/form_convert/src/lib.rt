@@ -12,16 +12,9 @@ ghost use Rattle.form_rewrite.specs.Fitting.{Read};
 ghost use Rattle.form_convert.specs.Convert.{stray, answer_of, ToForm2, ToForm1};
 ghost use Rattle.form_convert.specs.Told.{TellsForm2, TellsForm1};
 
-use form_fields::{Form, Shape};
+use form_fields::Shape;
 use form_rewrite::{write1, write2};
 use prelude::{MAX_NODES, MAX_ROWS, Refusal};
-
-// How long the converted file is, or why there is none.
-#[derive(Clone, Copy)]
-pub enum Conversion {
-    Converted(u64),
-    Refused(Refusal),
-}
 
 // Whether the node whose payload stands at `at` switches to another bank.
 fn is_stray(file: &[u8], at: usize, bank: u8) -> bool
@@ -48,12 +41,9 @@ fn first_stray(file: &[u8], from: usize, count: u64, bank: u8) -> u64
     requires { from + count * 8 ≤ length file.now + 3 }
     ensures { result ≡ first_where (strays bank) (column (part file.now 5) 8 from count) }
 {
-    for i in 0..count {
-        if is_stray(file, from + i as usize * 8, bank) {
-            return i;
-        }
-    }
-    count
+    (0..count)
+        .find(|i| is_stray(file, from + *i as usize * 8, bank))
+        .unwrap_or(count)
 }
 
 // Whether a result is taken, from its counts, its length and the room for it.
@@ -66,28 +56,28 @@ fn answer(
     longest: u64,
     drops: bool,
     room: u64,
-) -> Conversion
+) -> Result<u64, Refusal>
     ensures { result ≡ answer_of nodes rows first count size longest drops room }
 {
     if MAX_NODES < nodes {
-        return Conversion::Refused(Refusal::Malformed(0));
+        return Err(Refusal::Malformed(0));
     }
     if MAX_ROWS < rows {
-        return Conversion::Refused(Refusal::Malformed(1));
+        return Err(Refusal::Malformed(1));
     }
     if first < count {
-        return Conversion::Refused(Refusal::Malformed(first));
+        return Err(Refusal::Malformed(first));
     }
     if longest < size {
-        return Conversion::Refused(Refusal::Malformed(0));
+        return Err(Refusal::Malformed(0));
     }
     if drops {
-        return Conversion::Refused(Refusal::FillBitDropped);
+        return Err(Refusal::FillBitDropped);
     }
     if room < size {
-        return Conversion::Refused(Refusal::TooShort(0));
+        return Err(Refusal::TooShort(0));
     }
-    Conversion::Converted(size)
+    Ok(size)
 }
 
 // How many nodes a file of form 1 has in form 2.
@@ -124,7 +114,7 @@ fn stray1(file: &[u8], shape: Shape) -> u64
 }
 
 // A sound file of form 1 in form 2.
-fn convert2(file: &[u8], shape: Shape, out: &mut [u8]) -> Conversion
+fn convert2(file: &[u8], shape: Shape, out: &mut [u8]) -> Result<u64, Refusal>
     requires { Read form1 file.now shape }
     ensures { ToForm2 file.now out.old result out.new }
 {
@@ -141,22 +131,22 @@ fn convert2(file: &[u8], shape: Shape, out: &mut [u8]) -> Conversion
         false,
         out.len() as u64,
     ) {
-        Conversion::Refused(why) => Conversion::Refused(why),
-        Conversion::Converted(n) => {
+        Err(why) => Err(why),
+        Ok(n) => {
             write2(file, shape, out);
-            Conversion::Converted(n)
+            Ok(n)
         }
     }
 }
 
 // Form 1 to form 2. A refused call changes nothing that is lent.
-pub fn to_form2(file: &[u8], out: &mut [u8]) -> Conversion
+pub fn to_form2(file: &[u8], out: &mut [u8]) -> Result<u64, Refusal>
     ensures to_form2 { ToForm2 file.now out.old result out.new }
     ensures tells_form2 { TellsForm2 file.now out.old result }
 {
     match form_fields::read_form1(file) {
-        Form::Sound(shape) => convert2(file, shape, out),
-        Form::Broken(why) => Conversion::Refused(why),
+        Ok(shape) => convert2(file, shape, out),
+        Err(why) => Err(why),
     }
 }
 
@@ -164,25 +154,7 @@ pub fn to_form2(file: &[u8], out: &mut [u8]) -> Conversion
 fn is_zero(word: &[u8]) -> bool
     ensures { result ≡ all_zero word.now }
 {
-    for i in 0..word.len() {
-        if word[i] != 0 {
-            return false;
-        }
-    }
-    true
-}
-
-// Whether two runs of bytes of one length are the same.
-fn is_same(one: &[u8], other: &[u8]) -> bool
-    requires { length one.now ≡ length other.now }
-    ensures { result ≡ same one.now other.now }
-{
-    for i in 0..one.len() {
-        if one[i] != other[i] {
-            return false;
-        }
-    }
-    true
+    word.iter().all(|b| *b == 0)
 }
 
 // Whether the first two banks are as the converter leaves them.
@@ -190,7 +162,7 @@ fn is_bare(file: &[u8]) -> bool
     requires { 58 ≤ length file.now }
     ensures { result ≡ bare (part file.now 24 7) (part file.now 24 34) }
 {
-    if !is_same(&file[7..17], &file[34..44]) {
+    if &file[7..17] != &file[34..44] {
         return false;
     }
     if !is_zero(&file[17..31]) {
@@ -204,13 +176,7 @@ fn rows_start_zero(file: &[u8], from: usize, step: usize, count: usize) -> bool
     requires { from + count * step + 5 ≤ length file.now + step }
     ensures { result ≡ all_of all_zero (column (part file.now 5) step from count) }
 {
-    for i in 0..count {
-        let p = from + i * step;
-        if !is_zero(&file[p..p + 5]) {
-            return false;
-        }
-    }
-    true
+    (0..count).all(|i| is_zero(&file[from + i * step..from + i * step + 5]))
 }
 
 // Whether no bank has a fill bit of one.
@@ -218,12 +184,7 @@ fn bits_clear(file: &[u8], count: usize) -> bool
     requires { 4 + count * 27 ≤ length file.now }
     ensures { result ≡ all_of bit_clear (column (part file.now 24) 27 7 count) }
 {
-    for i in 0..count {
-        if file[30 + i * 27] != 0 {
-            return false;
-        }
-    }
-    true
+    (0..count).all(|i| file[30 + i * 27] == 0)
 }
 
 // Whether a file of form 2 has the shape that a one-bank file takes there.
@@ -274,7 +235,7 @@ fn stray2(file: &[u8], shape: Shape) -> u64
 }
 
 // A sound file of form 2 in form 1.
-fn convert1(file: &[u8], shape: Shape, out: &mut [u8]) -> Conversion
+fn convert1(file: &[u8], shape: Shape, out: &mut [u8]) -> Result<u64, Refusal>
     requires { Read form2 file.now shape }
     ensures { ToForm1 file.now out.old result out.new }
 {
@@ -292,21 +253,21 @@ fn convert1(file: &[u8], shape: Shape, out: &mut [u8]) -> Conversion
         !clear,
         out.len() as u64,
     ) {
-        Conversion::Refused(why) => Conversion::Refused(why),
-        Conversion::Converted(n) => {
+        Err(why) => Err(why),
+        Ok(n) => {
             write1(file, shape, found, out);
-            Conversion::Converted(n)
+            Ok(n)
         }
     }
 }
 
 // Form 2 to form 1. A refused call changes nothing that is lent.
-pub fn to_form1(file: &[u8], out: &mut [u8]) -> Conversion
+pub fn to_form1(file: &[u8], out: &mut [u8]) -> Result<u64, Refusal>
     ensures to_form1 { ToForm1 file.now out.old result out.new }
     ensures tells_form1 { TellsForm1 file.now out.old result }
 {
     match form_fields::read_form2(file) {
-        Form::Sound(shape) => convert1(file, shape, out),
-        Form::Broken(why) => Conversion::Refused(why),
+        Ok(shape) => convert1(file, shape, out),
+        Err(why) => Err(why),
     }
 }

@@ -1,5 +1,5 @@
 -- A field that was written, read back by its tests; a bank, a node and a row of a layout, number by number.
-use Rattle.std.specs.Prelude.{Bool, true, false, ◌≡◌, ℕ, ◌+◌, ◌*◌, ◌-◌, ◌/◌, ◌%◌, ◌≤◌, ◌<◌, eqb, length}
+use Rattle.std.specs.Prelude.{Bool, true, false, ◌≡◌, ℕ, ◌+◌, ◌*◌, ◌-◌, ◌/◌, ◌%◌, ◌≤◌, ◌<◌, eqb, length, Option, None, Some}
 use mathlib.Core.List.{List, [], ◌∷◌, ◌++◌, map}
 use Rattle.std.proofs.Math.Path.{refl, ap, ap₂}
 use Rattle.std.proofs.Common.{sym, ◌∙◌, add-zero, get_or-drop, to_z, of_z}
@@ -9,8 +9,6 @@ use borrow.Author.Tests.{le-leb}
 use mir.Syntax.{w64}
 use mir.ValLaws.{to_z-of_z}
 use Rattle.prelude.specs.Pick.{pick}
-use Rattle.prelude.specs.declared.Opt.{Opt}
-use Rattle.prelude.specs.declared.Opt.TheVariants.{None, Some}
 use Rattle.bankdef.specs.Numbers.{fill_bit}
 use Rattle.bankdef.specs.declared.Bankdef.{Bankdef}
 use Rattle.form_fields.specs.declared.Kind.{Kind}
@@ -67,7 +65,7 @@ field-long tag n payload e = field-length tag payload ∙ ap (λ (m : ℕ). 3 + 
 
 -- ---- banks
 
-present-le : (o : Opt) → present o ≤ 1
+present-le : (o : Option ℕ) → present o ≤ 1
 present-le None = omega arith
 present-le (Some n) = omega arith
 
@@ -76,7 +74,7 @@ filled-le true = omega arith
 filled-le false = omega arith
 
 -- a number and its flag say whether it is there
-opt-back : (o : Opt) (flags flag : ℕ) → flags / flag % 2 ≡ present o → opt_of flags flag (number_in o) ≡ o
+opt-back : (o : Option ℕ) (flags flag : ℕ) → flags / flag % 2 ≡ present o → opt_of flags flag (number_in o) ≡ o
 opt-back None flags flag e = rw e refl
 opt-back (Some n) flags flag e = rw e refl
 

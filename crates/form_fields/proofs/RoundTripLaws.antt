@@ -1,12 +1,11 @@
 -- Laws that Theorems/RoundTrip rests on.
-use Rattle.std.specs.Prelude.{true, false, List, [], ◌∷◌, ◌++◌, map, ◌≡◌, ℕ, suc, ◌+◌, ◌*◌, ◌≤◌, take, drop}
+use Rattle.std.specs.Prelude.{true, false, List, [], ◌∷◌, ◌++◌, map, ◌≡◌, ℕ, suc, ◌+◌, ◌*◌, ◌≤◌, take, drop, Ok}
 use Rattle.std.proofs.Common.{map-id, sym, subst, ◌∙◌, add-zero}
 use Rattle.std.proofs.Math.Path.{refl, ap, ap₂}
 use native.Mathlib.Omega.{arith}
 use Rattle.std.proofs.Math.ListN.{length, length-append}
 use Rattle.std.proofs.Math.Seq.{take-append_seam}
 use Rattle.bankdef.specs.declared.Bankdef.{Bankdef}
-use Rattle.form_fields.specs.declared.Form.TheVariants.{Sound}
 use Rattle.form_fields.specs.declared.Kind.{Kind}
 use Rattle.form_fields.specs.Words.{byte, word16, word32}
 use Rattle.form_fields.specs.Fields.{field_at}
@@ -134,14 +133,14 @@ module _ {k : Kind} (known : Known k) (c : Contents) (fits : Fits k c) where
       }
 
   -- It is sound, with these counts.
-  pub written-sound : length file ≤ k.longest → form_in k file ≡ Sound (shape_for k c)
+  pub written-sound : length file ≤ k.longest → form_in k file ≡ Ok (shape_for k c)
   written-sound short =
       form-sound k file short
       (has-head known file c rest begins)
       (values-there known file c (field 5 (c.limit ∷ [])) begins)
       (ap (field_at file 5 1) limit-at ∙ field-there 5 (c.limit ∷ []) limit-field)
       (omega (arith, limit-at, written-length))
-      ∙ ap Sound shape
+      ∙ ap Ok shape
 
 -- ---- which form a file has by its first bytes
 

@@ -1,8 +1,7 @@
 -- Theorems about what Whole defines.
-use Rattle.std.specs.Prelude.{List, [], ◌∷◌, ◌++◌, ◌≡◌, refl, ℕ, ◌+◌, ◌*◌, ◌/◌, ◌%◌, ◌≤◌, length, get_or, take, drop}
+use Rattle.std.specs.Prelude.{List, [], ◌∷◌, ◌++◌, ◌≡◌, refl, ℕ, ◌+◌, ◌*◌, ◌/◌, ◌%◌, ◌≤◌, length, get_or, take, drop, Result, Err, Ok}
 use Rattle.std.proofs.Common.{map-id, sym, ap, ap₂, ◌∙◌, arith, drop_at, take_at}
-use Rattle.form_fields.specs.declared.Form.{Form}
-use Rattle.form_fields.specs.declared.Form.TheVariants.{Sound, Broken}
+use Rattle.prelude.specs.declared.Refusal.{Refusal}
 use Rattle.form_fields.specs.declared.Kind.{Kind}
 use Rattle.form_fields.specs.Kind.{Known}
 use Rattle.form_fields.specs.Columns.{column}
@@ -18,6 +17,7 @@ use Rattle.form_fields.specs.Writer.{shape_for}
 use Rattle.form_fields.proofs.Written.{column-of}
 use Rattle.form_fields.proofs.WholeLaws.{contents-fit, fields-written, file-is-written, part_of}
 use Rattle.form_fields.specs.Whole.{BrokenOrWritten, Bytes, Field, broken, contents_in, field_bytes, fields_of, file_of, part, written_once}
+use Rattle.form_fields.specs.declared.Shape.{Shape}
 
 -- The contents of a file are those that it was written of.
 pub contents-back : {k : Kind} → Known k → (c : Contents) → Fits k c → contents_in k (written k c) ≡ c
@@ -73,14 +73,14 @@ one_list (f ∷ fs) (g ∷ gs) e =
 pub broken-or-written : {k : Kind} → Known k → (file : List ℕ) → Bytes file → BrokenOrWritten k file
 broken-or-written {k} known file bytes = go (form_in k file) refl
   where
-    go : (f : Form) → form_in k file ≡ f → BrokenOrWritten k file
-    go (Broken why) e = broken why e
-    go (Sound s) e =
+    go : (f : Result Shape Refusal) → form_in k file ≡ f → BrokenOrWritten k file
+    go (Err why) e = broken why e
+    go (Ok s) e =
         let c = contents_in k file in
         let is : file_of (fields_of k c) ≡ file = fields-written known c ∙ file-is-written file bytes known s e in
         written_once c (contents-fit file bytes known s e) is (λ fs same. one_list fs (fields_of k c) (same ∙ sym is))
 
 -- Never both: what the writer writes of contents that fit, within the form's length, is sound.
 pub not-both : {k : Kind} → Known k → (c : Contents) → Fits k c → length (written k c) ≤ k.longest
-    → form_in k (file_of (fields_of k c)) ≡ Sound (shape_for k c)
+    → form_in k (file_of (fields_of k c)) ≡ Ok (shape_for k c)
 not-both {k} known c fits short = ap (form_in k) (fields-written known c) ∙ written-sound known c fits short

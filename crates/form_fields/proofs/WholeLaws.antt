@@ -1,5 +1,5 @@
 -- Laws that Theorems/Whole rests on.
-use Rattle.std.specs.Prelude.{true, ◌≡◌, eqb, take}
+use Rattle.std.specs.Prelude.{true, ◌≡◌, eqb, take, Ok}
 use mathlib.Core.List.{List, [], ◌∷◌, ◌++◌, map, append_assoc, append-nil}
 use Rattle.std.proofs.Math.Path.{refl, sym, ap, ap₂, subst}
 use Rattle.std.proofs.Common.{◌∙◌, take-append-drop, drop_of_length-le, drop-drop, take_at, get_or-take, get_or-drop, eqb-true}
@@ -8,7 +8,6 @@ use native.Mathlib.Omega.{arith}
 use Rattle.std.proofs.Math.ListN.{length, get_or, drop, length-drop}
 use Rattle.std.proofs.Math.Seq.{length-take-le, drop-cons}
 use Rattle.prelude.specs.Laws.Bools.{both}
-use Rattle.form_fields.specs.declared.Form.TheVariants.{Sound}
 use Rattle.form_fields.specs.declared.Kind.{Kind}
 use Rattle.form_fields.specs.declared.Shape.{Shape}
 use Rattle.form_fields.specs.Words.{byte, word16}
@@ -159,7 +158,7 @@ module _ (file : List ℕ) (bytes : Bytes file) where
     unfolding limit_start_in
     values-then = omega arith
 
-  module _ {k : Kind} (known : Known k) (s : Shape) (sound : form_in k file ≡ Sound s) where
+  module _ {k : Kind} (known : Known k) (s : Shape) (sound : form_in k file ≡ Ok s) where
     facts : SoundFile k file s
     facts = sound-file k file s sound
 
@@ -211,7 +210,7 @@ module _ (file : List ℕ) (bytes : Bytes file) where
     pub shape_of : s ≡ shape_for k (contents_in k file)
     shape_of =
         let c = contents_in k file in
-        let e : form_in k file ≡ Sound (shape_for k c) =
+        let e : form_in k file ≡ Ok (shape_for k c) =
         ap (form_in k) (sym file-is-written) ∙ written-sound known c contents-fit (rw file-is-written facts.short) in
         cc
 

@@ -1,12 +1,10 @@
 -- The banks of a file. Document 01: "1 bank (unit 2 bytes, signed start 8, size 4, offset 4, label alignment 4, flags 1: size 1, offset
 -- 2, label alignment 4, fill 8)". "A number whose flag is clear is not read." Document 02: "a payload one byte longer (fill bit, 0 or 1)".
-use Rattle.std.specs.Prelude.{Bool, List, ◌++◌, ◌≡◌, ℕ, ◌+◌, ◌*◌, ◌-◌, ◌/◌, ◌%◌, min, ltb, eqb, ℤ, replicate}
+use Rattle.std.specs.Prelude.{Bool, List, ◌++◌, ◌≡◌, ℕ, ◌+◌, ◌*◌, ◌-◌, ◌/◌, ◌%◌, min, ltb, eqb, ℤ, replicate, Option, Some, None}
 use Rattle.std.specs.Int.{w64}
 use Rattle.std.proofs.Common.{to_z}
 use Rattle.prelude.specs.Limits.{max_banks}
 use Rattle.prelude.specs.Pick.{pick}
-use Rattle.prelude.specs.declared.Opt.{Opt}
-use Rattle.prelude.specs.declared.Opt.TheVariants.{None, Some}
 use Rattle.bankdef.specs.Check.{no_bank}
 use Rattle.bankdef.specs.declared.Bankdef.{Bankdef}
 use Rattle.bankdef.specs.declared.Bankdefs.{Bankdefs}
@@ -21,7 +19,7 @@ abbrev pub is_set : ℕ → ℕ → Bool
 is_set flags flag = eqb (flags / flag % 2) 1
 
 -- A number that is there where its flag is set.
-abbrev pub opt_of : ℕ → ℕ → ℕ → Opt
+abbrev pub opt_of : ℕ → ℕ → ℕ → Option ℕ
 opt_of flags flag n = pick (is_set flags flag) (Some n) None
 
 -- The bank of a record's seven numbers, wherever they stand: in a file, in a payload by itself, or in lists. "A number whose flag is clear is not read."

@@ -1,13 +1,12 @@
 -- What stands where in a file of either form, and which file is broken. Document 01: "in this order: 1 bank (..); 2 node (..); 3 row (..);
 -- 4 values, one field; 5 pass limit, 1 byte. A broken file (a field missing, unknown, out of order or extra, a wrong length, flags
 -- above 15) is 4 with the first such field's index, from 0. Having no bank, node or row is a count of 0, not a broken file."
-use Rattle.std.specs.Prelude.{true, not, List, ◌≡◌, ℕ, ◌+◌, ◌*◌, ◌≤◌, ltb, length}
+use Rattle.std.specs.Prelude.{true, not, List, ◌≡◌, ℕ, ◌+◌, ◌*◌, ◌≤◌, ltb, length, Result, Err, Ok}
 use Rattle.prelude.specs.Pick.{pick}
 use Rattle.prelude.specs.declared.Refusal.TheVariants.{Malformed}
+use Rattle.prelude.specs.declared.Refusal.{Refusal}
 use Rattle.form_fields.specs.declared.Kind.{Kind}
 use Rattle.form_fields.specs.declared.Shape.{Shape}
-use Rattle.form_fields.specs.declared.Form.{Form}
-use Rattle.form_fields.specs.declared.Form.TheVariants.{Sound, Broken}
 use Rattle.form_fields.specs.Words.{byte, word16}
 use Rattle.form_fields.specs.Fields.{field_at, run}
 use Rattle.form_fields.specs.Kind.{kind_of, headed}
@@ -63,14 +62,14 @@ module _ (k : Kind) (file : List ℕ) where
   -- "at most 65,000 bytes (longer: 4, place 0)"; "Form 2 may have 65,536 bytes". A head that is not there, no values field behind the rows, no
   -- limit behind the values, and anything behind the limit: that is the first field at which no valid file can go on; where the file ends there,
   -- its index is the number of fields.
-  unfoldable pub form_in : Form
+  unfoldable pub form_in : Result Shape Refusal
   form_in =
-      pick (ltb k.longest (length file)) (Broken (Malformed 0))
-      (pick (not (headed k file)) (Broken (Malformed 0))
-      (pick (not (field_at file 4 values_size_in values_start_in)) (Broken (Malformed fields_before_in))
-      (pick (not (field_at file 5 1 limit_start_in)) (Broken (Malformed (fields_before_in + 1)))
-      (pick (ltb (limit_start_in + 4) (length file)) (Broken (Malformed (fields_before_in + 2)))
-      (Sound shape_in)))))
+      pick (ltb k.longest (length file)) (Err (Malformed 0))
+      (pick (not (headed k file)) (Err (Malformed 0))
+      (pick (not (field_at file 4 values_size_in values_start_in)) (Err (Malformed fields_before_in))
+      (pick (not (field_at file 5 1 limit_start_in)) (Err (Malformed (fields_before_in + 1)))
+      (pick (ltb (limit_start_in + 4) (length file)) (Err (Malformed (fields_before_in + 2)))
+      (Ok shape_in)))))
 
   -- What is known of a file that is short enough and has its head, once its banks, nodes and rows are counted, and where the values must stand.
   pub record Counted (banks nodes rows at : ℕ) : Type 0 where
@@ -93,5 +92,5 @@ module _ (file : List ℕ) where
   abbrev pub row_count : ℕ
   row_count = row_count_in (kind_of file) file
 
-  abbrev pub form_of : Form
+  abbrev pub form_of : Result Shape Refusal
   form_of = form_in (kind_of file) file

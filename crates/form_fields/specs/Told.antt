@@ -1,12 +1,11 @@
 -- What a caller is told of a file, in document 01's figures: a broken one is 4 with the index of its first broken field, and every file is
 -- sound or broken by one of these.
-use Rattle.std.specs.Prelude.{ℕ, ◌+◌, ◌*◌, ◌≤◌, ◌<◌, true, false, List, ◌≡◌, ◌⊎◌, length}
+use Rattle.std.specs.Prelude.{ℕ, ◌+◌, ◌*◌, ◌≤◌, ◌<◌, true, false, List, ◌≡◌, ◌⊎◌, length, Result, Ok, Err}
 use Rattle.prelude.specs.Told.{Told, gives, refuses, Nothing, nothing, told_refusal, told_verdict}
 use Rattle.prelude.specs.declared.Place.{Place}
 use Rattle.prelude.specs.declared.Place.TheVariants.{One}
-use Rattle.prelude.specs.declared.Verdict.{Verdict}
-use Rattle.form_fields.specs.declared.Form.{Form}
-use Rattle.form_fields.specs.declared.Form.TheVariants.{Sound, Broken}
+use Rattle.prelude.specs.declared.Refusal.{Refusal}
+use Rattle.prelude.specs.Verdict.{Verdict}
 use Rattle.form_fields.specs.declared.Kind.{Kind}
 use Rattle.form_fields.specs.declared.Shape.{Shape}
 use Rattle.form_fields.specs.Fields.{field_at}
@@ -14,9 +13,9 @@ use Rattle.form_fields.specs.Lists.{Lists}
 use Rattle.form_fields.specs.Kind.{headed}
 use Rattle.form_fields.specs.Shape.{values_start_in, values_size_in, limit_start_in, fields_before_in, shape_in, form_in, form_of}
 
-abbrev pub told_form : Form → Told Shape
-told_form (Sound s) = gives s
-told_form (Broken why) = told_refusal why
+abbrev pub told_form : Result Shape Refusal → Told Shape
+told_form (Ok s) = gives s
+told_form (Err why) = told_refusal why
 
 pub data FormTold (k : Kind) (file : List ℕ) : Told Shape → Type 0 where
   -- "at most 65,000 bytes (longer: 4, place 0)", of form 2 65,536
@@ -38,18 +37,18 @@ pub data FormTold (k : Kind) (file : List ℕ) : Told Shape → Type 0 where
 
 module _ (k : Kind) (file : List ℕ) where
   -- What reading a form promises: the definition's answer, and what that tells.
-  pub record FormIs (answer : Form) : Type 0 where
+  pub record FormIs (answer : Result Shape Refusal) : Type 0 where
     pub is : answer ≡ form_in k file
     pub told : FormTold k file (told_form answer)
 
 -- What is told of the lists: a broken file as above; lists too short for the nodes are field 0 of 4, for the rows field 1.
-pub data ListsTold (form : Form) (kinds operands numbers states : ℕ) : Told Nothing → Type 0 where
+pub data ListsTold (form : Result Shape Refusal) (kinds operands numbers states : ℕ) : Told Nothing → Type 0 where
   broken : {n : ℕ} {place : Place} → told_form form ≡ refuses n place → ListsTold form kinds operands numbers states (refuses n place)
-  few-nodes : (s : Shape) → form ≡ Sound s → (kinds < s.nodes) ⊎ (operands < s.nodes)
+  few-nodes : (s : Shape) → form ≡ Ok s → (kinds < s.nodes) ⊎ (operands < s.nodes)
       → ListsTold form kinds operands numbers states (refuses 4 (One 0))
-  few-rows : (s : Shape) → form ≡ Sound s → s.nodes ≤ kinds → s.nodes ≤ operands
+  few-rows : (s : Shape) → form ≡ Ok s → s.nodes ≤ kinds → s.nodes ≤ operands
       → (numbers < s.rows * s.nodes) ⊎ (states < s.rows * s.nodes) → ListsTold form kinds operands numbers states (refuses 4 (One 1))
-  room : (s : Shape) → form ≡ Sound s → s.nodes ≤ kinds → s.nodes ≤ operands → s.rows * s.nodes ≤ numbers → s.rows * s.nodes ≤ states
+  room : (s : Shape) → form ≡ Ok s → s.nodes ≤ kinds → s.nodes ≤ operands → s.rows * s.nodes ≤ numbers → s.rows * s.nodes ≤ states
       → ListsTold form kinds operands numbers states (gives nothing)
 
 -- What reading the lists promises: its answer, each of the four lists, and what the answer tells.

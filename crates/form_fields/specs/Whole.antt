@@ -1,9 +1,8 @@
 -- Every file is broken, or it is the writer's of exactly one list of fields, bank bytes whole: nothing that stands in a sound file is outside its
 -- fields, and no two lists of fields have one file.
-use Rattle.std.specs.Prelude.{List, [], ◌∷◌, ◌++◌, map, ◌≡◌, ℕ, ◌+◌, ◌*◌, ◌<◌, eqb, get_or, take, drop}
+use Rattle.std.specs.Prelude.{List, [], ◌∷◌, ◌++◌, map, ◌≡◌, ℕ, ◌+◌, ◌*◌, ◌<◌, eqb, get_or, take, drop, Err}
 use Rattle.prelude.specs.Pick.{pick}
 use Rattle.prelude.specs.declared.Refusal.{Refusal}
-use Rattle.form_fields.specs.declared.Form.TheVariants.{Broken}
 use Rattle.form_fields.specs.declared.Kind.{Kind}
 use Rattle.form_fields.specs.Words.{byte}
 use Rattle.form_fields.specs.Columns.{column}
@@ -58,6 +57,6 @@ Bytes file = (i : ℕ) → get_or file i 0 < 256
 
 -- Every file within its form's length is the writer's of exactly one list of fields, bank bytes whole, or broken.
 pub data BrokenOrWritten (k : Kind) (file : List ℕ) : Type 0 where
-  broken : (why : Refusal) → form_in k file ≡ Broken why → BrokenOrWritten k file
+  broken : (why : Refusal) → form_in k file ≡ Err why → BrokenOrWritten k file
   written_once : (c : Contents) → Fits k c → file_of (fields_of k c) ≡ file → ((fs : List Field) → file_of fs ≡ file → fs ≡ fields_of k c)
       → BrokenOrWritten k file

@@ -1,13 +1,10 @@
 -- A writer of either form: the file of a layout, from document 01's words, and what it means to read a layout back out of a file.
-use Rattle.std.specs.Prelude.{Bool, true, false, List, [], ◌∷◌, ◌++◌, map, ◌≡◌, ℕ, ◌+◌, ◌*◌, ◌-◌, ◌≤◌, ltb, length}
+use Rattle.std.specs.Prelude.{Bool, true, false, List, [], ◌∷◌, ◌++◌, map, ◌≡◌, ℕ, ◌+◌, ◌*◌, ◌-◌, ◌≤◌, ltb, length, Option, None, Some, Ok}
 use Rattle.std.specs.Int.{w64}
 use Rattle.std.proofs.Common.{of_z, SFits}
 use Rattle.prelude.specs.Pick.{pick}
-use Rattle.prelude.specs.declared.Opt.{Opt}
-use Rattle.prelude.specs.declared.Opt.TheVariants.{None, Some}
 use Rattle.bankdef.specs.Numbers.{fill_bit}
 use Rattle.bankdef.specs.declared.Bankdef.{Bankdef}
-use Rattle.form_fields.specs.declared.Form.TheVariants.{Sound}
 use Rattle.form_fields.specs.declared.Kind.{Kind}
 use Rattle.form_fields.specs.declared.Shape.{Shape}
 use Rattle.form_fields.specs.Banks.{banks_in}
@@ -36,12 +33,12 @@ pub record Layout : Type 0 where
 -- ---- its file
 
 -- A number that may be absent is written as 0 with its flag clear.
-abbrev pub number_in : Opt → ℕ
+abbrev pub number_in : Option ℕ → ℕ
 number_in None = 0
 number_in (Some n) = n
 
 -- A flag is set, 1, or clear, 0.
-abbrev pub present : Opt → ℕ
+abbrev pub present : Option ℕ → ℕ
 present None = 0
 present (Some n) = 1
 
@@ -117,7 +114,7 @@ shape_for k c =
 
 -- A file says what a layout holds: it is sound with these counts and this limit, and its banks, lists and values are the layout's.
 pub record Says (k : Kind) (file : List ℕ) (l : Layout) : Type 0 where
-  pub form : form_in k file ≡ Sound (shape_for k (contents k l))
+  pub form : form_in k file ≡ Ok (shape_for k (contents k l))
   pub of-banks : banks_in k file (length l.banks) ≡ l.banks
   pub of-kinds : kinds_in k file ≡ map (λ (n : Node). n.kind) l.nodes
   pub of-operands : operands_in k file ≡ map (λ (n : Node). n.operand) l.nodes

@@ -9,9 +9,10 @@ ghost use Rattle.form_fields.specs.Kind.{form1, form2, begins2, kind_of, headed,
 ghost use Rattle.form_fields.specs.Shape.{Counted, form_in};
 ghost use Rattle.form_fields.specs.Told.{FormIs};
 
-use prelude::{Opt, Refusal};
+use prelude::Refusal;
 
 // A field's tag: a bank of either form, a node, a row, the value bytes, the pass limit, and the form's number.
+// stays: numbers of the file's format
 pub const TAG_BANK: u8 = 1;
 
 pub const TAG_NODE: u8 = 2;
@@ -50,13 +51,6 @@ pub struct Shape {
     pub limit: u8,
 }
 
-// A file is sound, or broken at a field.
-#[derive(Clone, Copy)]
-pub enum Form {
-    Sound(Shape),
-    Broken(Refusal),
-}
-
 // How many fields of a kind stand one behind the other, and where the last of them ends.
 #[derive(Clone, Copy)]
 pub struct Run {
@@ -64,17 +58,11 @@ pub struct Run {
     pub end: usize,
 }
 
-fn wide(b: u8) -> u16
-    ensures { (result ≡ b) × (result ≤ 255) }
-{
-    b as u16
-}
-
 // Two bytes as a number, big-endian.
 pub fn word_of(high: u8, low: u8) -> u16
     ensures { result ≡ high * 256 + low }
 {
-    wide(high) * 256 + wide(low)
+    u16::from_be_bytes([high, low])
 }
 
 fn read16(file: &[u8], at: usize) -> u16
@@ -88,21 +76,14 @@ fn read16(file: &[u8], at: usize) -> u16
 pub fn is_set(flags: u8, flag: u8) -> bool
     ensures { result ≡ is_set flags flag }
 {
-    if flag == 0 {
-        return false;
-    }
-    flags / flag % 2 == 1
+    flag != 0 && flags / flag % 2 == 1
 }
 
 // A number that is there where its flag is set.
-pub fn option(flags: u8, flag: u8, n: u32) -> Opt
+pub fn option(flags: u8, flag: u8, n: u32) -> Option<u32>
     ensures { result ≡ opt_of flags flag n }
 {
-    if is_set(flags, flag) {
-        Opt::Some(n)
-    } else {
-        Opt::None
-    }
+    if is_set(flags, flag) { Some(n) } else { None }
 }
 
 // Whether a header and `len` bytes of payload from `at` on end within the file.
@@ -164,6 +145,7 @@ pub fn count_run(file: &[u8], tag: u8, len: usize, at: usize) -> Run
 {
     let mut end = at;
     let mut count = 0;
+    // stays: how many fields there are is what the loop finds; a chain over chunks is no plainer, since `at` may lie past the end
     while is_sound(file, tag, len, end) {
         end += 3 + len;
         count += 1;
@@ -171,29 +153,23 @@ pub fn count_run(file: &[u8], tag: u8, len: usize, at: usize) -> Run
     Run { count, end }
 }
 
-fn form1() -> Kind
-    ensures { result ≡ form1 }
-{
-    Kind {
-        form: 1,
-        heads: 0,
-        tag: TAG_BANK,
-        bank: 23,
-        longest: 65_000,
-    }
-}
+// Form 1: no field ahead of the banks, and 65,000 bytes at most.
+const FORM_1: Kind = Kind {
+    form: 1,
+    heads: 0,
+    tag: TAG_BANK,
+    bank: 23,
+    longest: 65_000,
+};
 
-fn form2() -> Kind
-    ensures { result ≡ form2 }
-{
-    Kind {
-        form: 2,
-        heads: 1,
-        tag: TAG_BANK_2,
-        bank: 24,
-        longest: 65_536,
-    }
-}
+// Form 2: the field with the form's number ahead of the banks, a bank's payload one byte longer, and 65,536 bytes at most.
+const FORM_2: Kind = Kind {
+    form: 2,
+    heads: 1,
+    tag: TAG_BANK_2,
+    bank: 24,
+    longest: 65_536,
+};
 
 // Whether a file begins with a field of tag 16 holding one byte, 2.
 fn begins2(file: &[u8]) -> bool
@@ -209,7 +185,7 @@ fn begins2(file: &[u8]) -> bool
 pub fn kind_of(file: &[u8]) -> Kind
     ensures { result ≡ kind_of file.now }
 {
-    if begins2(file) { form2() } else { form1() }
+    if begins2(file) { FORM_2 } else { FORM_1 }
 }
 
 // Whether a file begins as the form asks.
@@ -223,27 +199,34 @@ fn is_headed(file: &[u8], kind: Kind) -> bool
 }
 
 // What follows the rows: the values, the limit and the end.
-fn read_rest(file: &[u8], kind: Kind, banks: u64, nodes: u64, rows: u64, at: usize) -> Form
+fn read_rest(
+    file: &[u8],
+    kind: Kind,
+    banks: u64,
+    nodes: u64,
+    rows: u64,
+    at: usize,
+) -> Result<Shape, Refusal>
     requires known { Known kind }
     requires counted { Counted kind file.now banks nodes rows at }
     ensures { result ≡ form_in kind file.now }
 {
     let field = kind.heads + banks + nodes + rows;
     if at + 3 > file.len() {
-        return Form::Broken(Refusal::Malformed(field));
+        return Err(Refusal::Malformed(field));
     }
     let size = read16(file, at + 1) as usize;
     if !is_field(file, TAG_VALUES, size, at) {
-        return Form::Broken(Refusal::Malformed(field));
+        return Err(Refusal::Malformed(field));
     }
     let limit = at + 3 + size;
     if !is_field(file, TAG_LIMIT, 1, limit) {
-        return Form::Broken(Refusal::Malformed(field + 1));
+        return Err(Refusal::Malformed(field + 1));
     }
     if limit + 4 < file.len() {
-        return Form::Broken(Refusal::Malformed(field + 2));
+        return Err(Refusal::Malformed(field + 2));
     }
-    Form::Sound(Shape {
+    Ok(Shape {
         form: kind.form,
         banks,
         nodes,
@@ -255,15 +238,15 @@ fn read_rest(file: &[u8], kind: Kind, banks: u64, nodes: u64, rows: u64, at: usi
 }
 
 // Where things stand in a file of this form, or at which field it is broken.
-fn read_as(file: &[u8], kind: Kind) -> Form
+fn read_as(file: &[u8], kind: Kind) -> Result<Shape, Refusal>
     requires { Known kind }
     ensures { result ≡ form_in kind file.now }
 {
     if kind.longest < file.len() {
-        return Form::Broken(Refusal::Malformed(0));
+        return Err(Refusal::Malformed(0));
     }
     if !is_headed(file, kind) {
-        return Form::Broken(Refusal::Malformed(0));
+        return Err(Refusal::Malformed(0));
     }
     let banks = count_run(file, kind.tag, kind.bank, kind.heads as usize * 4);
     let nodes = count_run(file, TAG_NODE, 5, banks.end);
@@ -272,21 +255,21 @@ fn read_as(file: &[u8], kind: Kind) -> Form
 }
 
 // Where things stand in a file of either form, or at which field it is broken.
-pub fn read_shape(file: &[u8]) -> Form
+pub fn read_shape(file: &[u8]) -> Result<Shape, Refusal>
     ensures { FormIs (kind_of file.now) file.now result }
 {
     read_as(file, kind_of(file))
 }
 
 // The same of a file that is to be of form 1, or of form 2: one of the other form is broken at field 0.
-pub fn read_form1(file: &[u8]) -> Form
+pub fn read_form1(file: &[u8]) -> Result<Shape, Refusal>
     ensures { FormIs form1 file.now result }
 {
-    read_as(file, form1())
+    read_as(file, FORM_1)
 }
 
-pub fn read_form2(file: &[u8]) -> Form
+pub fn read_form2(file: &[u8]) -> Result<Shape, Refusal>
     ensures { FormIs form2 file.now result }
 {
-    read_as(file, form2())
+    read_as(file, FORM_2)
 }

@@ -4,7 +4,7 @@ use mathlib.Core.List.{List}
 use mathlib.Core.Path.{◌≡◌, sym, ap, ◌∙◌}
 use Rattle.prelude.specs.Laws.Outcome.{OneOutcome, OneView}
 use Rattle.prelude.specs.Laws.Pick.{determined, paired}
-use Rattle.prelude.specs.declared.Verdict.{Verdict}
+use Rattle.prelude.specs.Verdict.{Verdict}
 use Rattle.form_fields.specs.Lists.{kinds_of, operands_of, numbers_of, states_of, list_after}
 use Rattle.form_lists.proofs.read_banks.Kinds as read-banks-kinds
 use Rattle.form_lists.proofs.read_banks.Reads as read-banks-reads
@@ -25,7 +25,7 @@ after : (new old : List ℕ) {v w : Verdict} {a b : List ℕ} → v ≡ w → a 
 after new old e p q = p ∙ ap (λ (u : Verdict). list_after u new old) e ∙ sym q
 
 -- the answer, and kinds, operands, numbers and states afterwards
-pub read-lists-unique : OneView 5 read-lists-kinds.ps read-lists-kinds.r read-lists-reads.Learnt (Verdict × (List ℕ × (List ℕ × (List ℕ × List ℕ))))
+pub read-lists-unique : OneView 5 read-lists-kinds.ps read-lists-kinds.r read-lists-reads.Learnt ((Verdict) × (List ℕ × (List ℕ × (List ℕ × List ℕ))))
     (λ κs x e. (x, (e.1.0.now, (e.1.1.0.now, (e.1.1.1.0.now, e.1.1.1.1.0.now)))))
 read-lists-unique κs a x y e f p q =
     let file = a.0.now in

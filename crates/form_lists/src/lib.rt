@@ -5,7 +5,6 @@ ghost use Rattle.std.specs.Prelude.{◌≡◌, ◌++◌, ◌+◌, ◌-◌, ◌*�
 ghost use Rattle.std.proofs.Math.Seq.{paste};
 ghost use Rattle.std.specs.Int.{w64};
 ghost use Rattle.std.proofs.Common.{to_z};
-ghost use Rattle.form_fields.specs.declared.Form.TheVariants.{Sound};
 ghost use Rattle.bankdef.specs.Check.{no_bank};
 ghost use Rattle.form_fields.specs.Banks.{fill_bit_at, bank_at, banks_in, TableIs};
 ghost use Rattle.form_fields.specs.Columns.{column};
@@ -16,8 +15,8 @@ ghost use Rattle.form_fields.specs.Shape.{form_of, nodes_start};
 ghost use Rattle.form_fields.specs.Told.{ListsAre};
 
 use bankdef::{Bankdef, Bankdefs};
-use form_fields::{Form, Kind, Shape, count_run, is_set, kind_of, option, read_shape, word_of};
-use prelude::{MAX_BANKS, Opt, Refusal, Verdict};
+use form_fields::{Kind, Shape, count_run, is_set, kind_of, option, read_shape, word_of};
+use prelude::{MAX_BANKS, Refusal};
 
 // Two, four and eight bytes of a file, big-endian.
 fn read16(file: &[u8], at: usize) -> u16
@@ -31,25 +30,14 @@ fn read32(file: &[u8], at: usize) -> u32
     requires { at + 4 ≤ length file.now }
     ensures { result ≡ word32 file.now at }
 {
-    (read16(file, at) as u32) * 65_536 + read16(file, at + 2) as u32
+    u32::from(read16(file, at)) * 65_536 + u32::from(read16(file, at + 2))
 }
 
 fn read64(file: &[u8], at: usize) -> u64
     requires { at + 8 ≤ length file.now }
     ensures { result ≡ word64 file.now at }
 {
-    (read32(file, at) as u64) * 4_294_967_296 + read32(file, at + 4) as u64
-}
-
-// Eight bytes as two's complement.
-fn signed(w: u64) -> i64
-    ensures { result ≡ to_z w64 w }
-{
-    if w < 9_223_372_036_854_775_808 {
-        w as i64
-    } else {
-        -1 - ((18_446_744_073_709_551_615 - w) as i64)
-    }
+    u64::from(read32(file, at)) * 4_294_967_296 + u64::from(read32(file, at + 4))
 }
 
 // The fill bit of the bank whose field starts at `at`, where the form has one.
@@ -63,7 +51,7 @@ fn fill_bit(file: &[u8], kind: Kind, at: usize) -> u8
     file[at + 26]
 }
 
-// The bank whose field starts at `at`.
+// The bank whose field starts at `at`; its start is eight bytes as two's complement.
 fn read_bank(file: &[u8], kind: Kind, at: usize) -> Bankdef
     requires le_bank { 23 ≤ kind.bank }
     requires bank_in_bounds { at + 3 + kind.bank ≤ length file.now }
@@ -72,7 +60,7 @@ fn read_bank(file: &[u8], kind: Kind, at: usize) -> Bankdef
     let flags = file[at + 25];
     Bankdef {
         unit: read16(file, at + 3),
-        start: signed(read64(file, at + 5)),
+        start: read64(file, at + 5).cast_signed(),
         size: option(flags, 1, read32(file, at + 13)),
         offset: option(flags, 2, read32(file, at + 17)),
         align: option(flags, 4, read32(file, at + 21)),
@@ -91,17 +79,16 @@ fn read_table(file: &[u8], kind: Kind, count: usize) -> [Bankdef; 16]
     let mut defs = [Bankdef {
         unit: 0,
         start: 0,
-        size: Opt::None,
-        offset: Opt::None,
-        align: Opt::None,
+        size: None,
+        offset: None,
+        align: None,
         fill: false,
         fill_bit: 0,
     }; 16];
     let first = kind.heads as usize * 4;
     let step = 3 + kind.bank;
-    for i in 0..count {
-        let bank = read_bank(file, kind, first + i * step);
-        defs[i] = bank;
+    for (i, def) in defs[..count].iter_mut().enumerate() {
+        *def = read_bank(file, kind, first + i * step);
     }
     defs
 }
@@ -112,10 +99,7 @@ pub fn read_banks(file: &[u8]) -> Bankdefs
 {
     let kind = kind_of(file);
     let run = count_run(file, kind.tag, kind.bank, kind.heads as usize * 4);
-    let mut count = run.count;
-    if MAX_BANKS < count {
-        count = MAX_BANKS;
-    }
+    let count = run.count.min(MAX_BANKS);
     Bankdefs {
         defs: read_table(file, kind, count as usize),
         len: run.count,
@@ -126,7 +110,7 @@ pub fn read_banks(file: &[u8]) -> Bankdefs
 pub fn read_values<'a>(file: &'a [u8]) -> &'a [u8]
     ensures { ValuesAre file.now result.now }
 {
-    let Form::Sound(shape) = read_shape(file) else {
+    let Ok(shape) = read_shape(file) else {
         return &file[0..0];
     };
     let start = shape.values;
@@ -152,6 +136,7 @@ fn read_columns(
     ensures words_after { words.new ≡ paste words.old from (column (word32 file.now) step word_at count) count }
     ensures bytes_after { bytes.new ≡ paste bytes.old from (column (byte file.now) step byte_at count) count }
 {
+    // stays: a word and a byte `step` apart go into two lists from `from` on; a zip of three parts with a step is no plainer
     for i in 0..count {
         let p = i * step;
         words[from + i] = read32(file, word_at + p);
@@ -182,7 +167,7 @@ fn read_rows(
 
 // Where the nodes of a sound file start.
 fn nodes_start(file: &[u8], shape: Shape) -> usize
-    requires { form_of file.now ≡ Sound shape }
+    requires { form_of file.now ≡ Ok shape }
     ensures { result ≡ nodes_start file.now }
 {
     let kind = kind_of(file);
@@ -197,30 +182,30 @@ fn fill_lists(
     operands: &mut [u32],
     numbers: &mut [u32],
     states: &mut [u8],
-) -> Verdict
-    requires { form_of file.now ≡ Sound shape }
+) -> Result<(), Refusal>
+    requires { form_of file.now ≡ Ok shape }
     ensures { Lists file.now kinds.old operands.old numbers.old states.old result
         kinds.new operands.new numbers.new states.new }
 {
     let nodes = shape.nodes as usize;
     let rows = shape.rows as usize;
     if kinds.len() < nodes {
-        return Verdict::Refused(Refusal::Malformed(0));
+        return Err(Refusal::Malformed(0));
     }
     if operands.len() < nodes {
-        return Verdict::Refused(Refusal::Malformed(0));
+        return Err(Refusal::Malformed(0));
     }
     let cells = rows * nodes;
     if numbers.len() < cells {
-        return Verdict::Refused(Refusal::Malformed(1));
+        return Err(Refusal::Malformed(1));
     }
     if states.len() < cells {
-        return Verdict::Refused(Refusal::Malformed(1));
+        return Err(Refusal::Malformed(1));
     }
     let start = nodes_start(file, shape);
     read_columns(file, start + 4, start + 3, 8, nodes, 0, operands, kinds);
     read_rows(file, start + nodes * 8, nodes, rows, numbers, states);
-    Verdict::Accepted
+    Ok(())
 }
 
 // Reads the kind and the operand of each node, and each row's number and state of each node, row by row.
@@ -230,12 +215,12 @@ pub fn read_lists(
     operands: &mut [u32],
     numbers: &mut [u32],
     states: &mut [u8],
-) -> Verdict
+) -> Result<(), Refusal>
     ensures { ListsAre file.now kinds.old operands.old numbers.old states.old result
         kinds.new operands.new numbers.new states.new }
 {
     match read_shape(file) {
-        Form::Sound(shape) => fill_lists(file, shape, kinds, operands, numbers, states),
-        Form::Broken(r) => Verdict::Refused(r),
+        Ok(shape) => fill_lists(file, shape, kinds, operands, numbers, states),
+        Err(r) => Err(r),
     }
 }

@@ -17,6 +17,7 @@ use Rattle.form_rewrite.specs.Fitting.{Read}
 use Rattle.form_rewrite.specs.Theorems.Fitting.{widened-long}
 use Rattle.form_rewrite.specs.Laws.Sizes.{sizes, fits, rows-many, banks-in, nodes-in, rows_in, values-at, nodes-at, rows_at, file-long}
 use Rattle.form_rewrite.specs.Laws.Sizes.{from-nodes, from-values, one-is, alone-is, alone-not}
+use Rattle.form_rewrite.specs.Laws.PartLaws.{part_length}
 use Rattle.form_rewrite.proofs.Laws.{rows_more}
 
 -- ---- columns
@@ -70,6 +71,8 @@ pub record Widening (file : List ℕ) (s : Shape) (out : ℕ) : Type 0 where
   pub short : length file ≤ 65000
   pub room : length file + 40 + 5 * s.rows ≤ out
   pub more : s.rows * (3 + (5 + 5 * s.nodes + 0)) ≡ s.rows * (3 + 5 * s.nodes) + s.rows * 5
+  pub ten : length (take 10 (drop 3 file)) ≡ 10
+  pub all : length (take 23 (drop 3 file)) ≡ 23
 
 module _ (file : List ℕ) (s : Shape) (r : Read form1 file s) where
   abbrev c₁ : Contents
@@ -96,6 +99,8 @@ module _ (file : List ℕ) (s : Shape) (r : Read form1 file s) where
         short = z.short;
         room = omega (arith, wide-long one, h);
         more = rows_more s.rows s.nodes;
+        ten = part_length file 10 3 (omega (arith, one, z));
+        all = part_length file 23 3 (omega (arith, one, z));
       }
 
   pub lengthened-is : lengthened_pieces file s ≡ written form2 (lengthened c₁)

@@ -15,7 +15,7 @@ use Rattle.form_fields.specs.Whole.{part, contents_in}
 use Rattle.form_rewrite.specs.Turning.{turned, zeros, shaped, shortened, narrowed, to_form1}
 use Rattle.form_rewrite.specs.Fitting.{Read}
 use Rattle.form_rewrite.specs.Laws.Fitting.{narrowed-long, shape_two, shape-some}
-use Rattle.form_rewrite.specs.Laws.PartLaws.{part-front, part-back}
+use Rattle.form_rewrite.specs.Laws.PartLaws.{part-front, part-back, part_length}
 use Rattle.form_rewrite.specs.Laws.Sizes.{sizes, fits, banks-many, nodes-many, rows-many, banks-in, nodes-in, rows_in, values-at, nodes-at, rows_at}
 use Rattle.form_rewrite.specs.Laws.Sizes.{file-long, from-nodes, from-values}
 use Rattle.form_rewrite.proofs.Laws.{rows-less}
@@ -45,6 +45,7 @@ pub record Narrowing (file : List ℕ) (s : Shape) (out : ℕ) : Type 0 where
   pub short : length file ≤ 65536
   pub room : length file ≤ out + 40 + 5 * s.rows
   pub less : s.rows * (3 + (0 + (5 * s.nodes - 5) + 0)) + s.rows * 5 ≡ s.rows * (3 + 5 * s.nodes)
+  pub all : length (take 23 (drop 34 file)) ≡ 23
 
 module _ (file : List ℕ) (s : Shape) (r : Read form2 file s) where
   abbrev c₂ : Contents
@@ -75,6 +76,7 @@ module _ (file : List ℕ) (s : Shape) (r : Read form2 file s) where
         short = z.short;
         room = omega (arith, narrow-long e, h);
         less = rows-less s.rows s.nodes some;
+        all = part_length file 23 34 (omega (arith, two, some, z));
       }
 
   pub to-narrowed : shaped c₂ ≡ true → to_form1 c₂ ≡ narrowed c₂

@@ -1,7 +1,7 @@
 -- Laws for the writing of fields: stores one behind the other, one field more, where a writing has come to.
 use mathlib.Core.List.{List, [], ◌∷◌, ◌++◌, append-nil}
 use mathlib.Core.Path.{◌≡◌, refl, sym, ap, ap₂, subst, ◌∙◌}
-use Prim.Native.Nat.{ℕ, suc, ◌+◌, ◌*◌, ◌-◌, ◌≤◌, ◌<◌}
+use Prim.Native.Nat.{ℕ, suc, ◌+◌, ◌*◌, ◌-◌, ◌<◌}
 use native.Mathlib.Nat.{mul-add}
 use native.Mathlib.Omega.{arith}
 use lib.ListN.{length, set, length-append, length-replicate}
@@ -9,13 +9,10 @@ use lib.Seq.{sets}
 use Rattle.form_fields.specs.Columns.{column}
 use Rattle.form_fields.specs.Laws.Columns.{column-last}
 use Rattle.form_fields.specs.Contents.{bytes16, field, flat}
-use Rattle.form_fields.specs.Laws.Has.{field-length}
-use Rattle.form_fields.specs.Whole.{part}
 use Rattle.form_fields.proofs.WholeLaws.{flat_append}
-use Rattle.form_rewrite.specs.Laws.PartLaws.{part_length}
-use Rattle.form_rewrite.specs.Turning.{switch_to, zeros}
+use Rattle.form_rewrite.specs.Turning.{zeros}
 use Rattle.print_text.specs.Puts.{Writes}
-use Rattle.print_text.specs.Laws.Sets.{writes_then, writes-long}
+use Rattle.print_text.specs.Laws.Sets.{writes_then}
 
 -- ---- stores one behind the other
 
@@ -24,19 +21,6 @@ stores3 l e a b c =
     let p : e + 1 ≡ suc e = omega arith in
     let q : e + 2 ≡ suc (suc e) = omega arith in
     ap₂ (λ (i j : ℕ). set (set (set l e a) i b) j c) p q
-
-pub stores5 : (l : List ℕ) (e a b c d x : ℕ)
-    → set (set (set (set (set l e a) (e + 1) b) (e + 2) c) (e + 3) d) (e + 4) x ≡ sets l e (a ∷ b ∷ c ∷ d ∷ x ∷ [])
-stores5 l e a b c d x =
-    let p : e + 1 ≡ suc e = omega arith in
-    let q : e + 2 ≡ suc (suc e) = omega arith in
-    let r : e + 3 ≡ suc (suc (suc e)) = omega arith in
-    let s : e + 4 ≡ suc (suc (suc (suc e))) = omega arith in
-    λ i. set (set (set (set (set l e a) (p i) b) (q i) c) (r i) d) (s i) x
-
-pub writes5 : (l : List ℕ) (e a b c d x : ℕ)
-    → Writes (a ∷ b ∷ c ∷ d ∷ x ∷ []) l e (e + 5) (set (set (set (set (set l e a) (e + 1) b) (e + 2) c) (e + 3) d) (e + 4) x)
-writes5 l e a b c d x = record { place = refl; buffer = stores5 l e a b c d x }
 
 -- ---- a field
 
@@ -64,15 +48,10 @@ header-length tag n = refl
 pub field-none : (tag : ℕ) (payload : List ℕ) → field tag (zeros 0 ++ (payload ++ zeros 0)) ≡ field tag payload
 field-none tag payload = ap (field tag) (append-nil payload)
 
-pub switch-written : (bank : ℕ) {old mid new : List ℕ} {at end end' : ℕ} → Writes (2 ∷ bytes16 5) old at end mid → Writes (switch_to bank) mid end end' new
-    → Writes (field 2 (switch_to bank)) old at end' new
-switch-written bank {old} {mid} {new} {at} {end} {end'} p q =
-    subst (λ (l : List ℕ). Writes l old at end' new) (header-field 2 5 (switch_to bank) refl) (writes_then p q)
-
-pub head-written : {old mid : List ℕ} {at end : ℕ} → Writes (16 ∷ bytes16 1) old at end mid → Writes (field 16 (2 ∷ [])) old at (end + 1) (set mid end 2)
-head-written {old} {mid} {at} {end} p =
-    let one : Writes (2 ∷ []) mid end (end + 1) (set mid end 2) = record { place = refl; buffer = refl } in
-    subst (λ (l : List ℕ). Writes l old at (end + 1) (set mid end 2)) (header-field 16 1 (2 ∷ []) refl) (writes_then p one)
+-- a field with no zeros about its payload
+pub bare-field : (tag : ℕ) (payload : List ℕ) {old new : List ℕ} {at end : ℕ} → Writes (field tag (zeros 0 ++ (payload ++ zeros 0))) old at end new
+    → Writes (field tag payload) old at end new
+bare-field tag payload {old} {new} {at} {end} w = subst (λ (l : List ℕ). Writes l old at end new) (field-none tag payload) w
 
 -- one field more
 flat-one : {X : Type 0} (write : X → List ℕ) (x : X) → flat write (x ∷ []) ≡ write x
@@ -93,17 +72,7 @@ module _ (tag : ℕ) (what : ℕ → List ℕ) (step from : ℕ) where
       ∙ ap (λ (l : List ℕ). flat (field tag) (column what step from i) ++ l) (flat-one (field tag) x) in
       subst (λ (l : List ℕ). Writes l old at end' new) (sym e) (writes_then p q)
 
--- ---- where a writing has come to
-
-pub stage : {old new bytes : List ℕ} {at end : ℕ} → Writes bytes old at end new → (n m l : ℕ) → at ≡ n → length bytes ≡ m → length old ≡ l
-    → (end ≡ n + m) × (length new ≡ l)
-stage {old} {new} {bytes} {at} {end} w n m l p q e = (omega (arith, w.place, p, q), writes-long w ∙ e)
-
-pub padded-field : (tag : ℕ) (file : List ℕ) (keep behind at : ℕ) → at + keep ≤ length file
-    → length (field tag (zeros 0 ++ (part file keep at ++ zeros behind))) ≡ 3 + (0 + keep + behind)
-padded-field tag file keep behind at h =
-    field-length tag (zeros 0 ++ (part file keep at ++ zeros behind))
-    ∙ ap (λ (n : ℕ). 3 + n) (padded-length 0 behind (part file keep at) ∙ ap (λ (n : ℕ). 0 + n + behind) (part_length file keep at h))
+-- ---- the bytes of the rows
 
 -- five bytes more in each row
 pub rows_more : (r n : ℕ) → r * (3 + (5 + 5 * n + 0)) ≡ r * (3 + 5 * n) + r * 5

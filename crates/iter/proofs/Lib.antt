@@ -1,4 +1,3 @@
 pub mod Signed
-pub mod Sums
 pub mod PaceLaws
 pub mod Unique

@@ -1,4 +1,5 @@
 -- A step in numbers, kind by kind: each is a crossing of specs/Crossing, by what the node sees and where it moves.
+use Rattle.std.specs.Prelude.{Ok, None, Result, Some}
 use Prim.Native.Nat.{ℕ, ◌+◌, ◌≤◌, ◌<◌}
 use mathlib.Core.Path.{◌≡◌, refl, sym, ap, ◌∙◌}
 use mathlib.Core.Bool.{Bool, true, false, ◌&&◌}
@@ -10,8 +11,8 @@ use borrow.Author.Tests.{eq-eqb, ne_eqb}
 use Rattle.prelude.specs.Laws.Bools.{either}
 use Rattle.prelude.specs.Laws.Pick.{pick_true, pick-false}
 use Rattle.prelude.specs.Limits.{max_position}
-use Rattle.prelude.specs.declared.Opt.TheVariants.{None, Some}
 use Rattle.prelude.specs.declared.Refusal.TheVariants.{Malformed, PositionPast}
+use Rattle.prelude.specs.declared.Refusal.{Refusal}
 use Rattle.bankdef.specs.declared.Bankdef.{Bankdef}
 use Rattle.iter.specs.Crossing.{crossing_of, halted}
 use Rattle.iter.specs.Distance.{tellable, address_in_bits, distance_to, skips_of, no_skip, distance_of}
@@ -23,13 +24,10 @@ use Rattle.iter.specs.Step.{moved_by, moved_by_distance, aligned_to, outermost_s
 use Rattle.iter.specs.Step.{aligned_motion, seen_motion, advance_motion}
 use Rattle.iter.specs.Theorems.Advance.{sound-state, early, item, aligning, setting, asserting, other as moves-other}
 use Rattle.iter.specs.Theorems.Aligned.{four-when, told-when}
-use Rattle.iter.specs.declared.Distance.{Distance}
-use Rattle.iter.specs.declared.Distance.TheVariants.{Skips}
 use Rattle.iter.specs.declared.Motion.{Motion}
-use Rattle.iter.specs.declared.Moved.TheVariants.{To}
 use Rattle.nodes.specs.Kinds.{is_symbol}
-use Rattle.nodes.specs.Laws.Kinds.{Numbers, stay, switch, mark, add, align, set, other}
-use Rattle.nodes.specs.declared.kinds.Doing.TheVariants.{Stays, Switches, Symbol, Adds, Aligns, Sets, Unknown}
+use Rattle.nodes.specs.Laws.Kinds.{Numbers, stay, switch, add, set, other}
+use Rattle.nodes.specs.declared.kinds.Doing.TheVariants.{Stays, Switches, Adds, Sets, Unknown}
 use Rattle.nodes.specs.declared.Node.{Node}
 use Rattle.iter.specs.declared.Paced.{Paced}
 use Rattle.iter.specs.declared.Pos.{Pos}
@@ -43,14 +41,8 @@ stay-told (stay h) = h
 pub switch-told : {kind : ℕ} → Numbers kind Switches → kind ≡ 1
 switch-told (switch e) = e
 
-pub mark-told : {kind : ℕ} → Numbers kind Symbol → (2 ≤ kind) × (kind ≤ 3)
-mark-told (mark low high) = (low, high)
-
 pub add-told : {kind : ℕ} → Numbers kind Adds → (4 ≤ kind) × (kind ≤ 7)
 add-told (add low high) = (low, high)
-
-pub align-told : {kind : ℕ} → Numbers kind Aligns → kind ≡ 8
-align-told (align e) = e
 
 pub set_told : {kind : ℕ} → Numbers kind Sets → kind ≡ 9
 set_told (set e) = e
@@ -88,7 +80,7 @@ skips e = ap (λ (m : Motion). m.skipped) e
 module _ (def : Bankdef) (at : Pos) (node : Node) where
   -- ---- the numbers of a crossing
 
-  pub paces-made : (p q : Pos) (s : Skipped) {r : Paced} → crossing_of def at node ≡ record { seen = To p; skipped = s; after = q }
+  pub paces-made : (p q : Pos) (s : Skipped) {r : Paced} → crossing_of def at node ≡ record { seen = Ok p; skipped = s; after = q }
       → r ≡ made_by p q s → Paces def at node r
   paces-made p q s e f = (f ∙ ap numbers_of (sym e), ap (crossed_by node.index) f ∙ sym e)
 
@@ -106,14 +98,14 @@ module _ (def : Bankdef) (at : Pos) (node : Node) where
 
   module _ (sound : bad_state node ≡ false) where
     -- no kind but 8 counts its own advance
-    by-sight : (p q : Pos) {m : Motion} → m ≡ seen_motion def at node → m.to ≡ To p → (node.kind ≡ 8 → ⊥) → moved_on def p node ≡ To q
-        → crossing_of def at node ≡ record { seen = To p; skipped = m.skipped; after = q }
+    by-sight : (p q : Pos) {m : Motion} → m ≡ seen_motion def at node → m.to ≡ Ok p → (node.kind ≡ 8 → ⊥) → moved_on def p node ≡ Ok q
+        → crossing_of def at node ≡ record { seen = Ok p; skipped = m.skipped; after = q }
     by-sight p q e s n a =
         cross-moves def at node sound p q (sym (leads e) ∙ s) (sound-state def p node sound ∙ a)
-        ∙ ap (λ (x : Skipped). record { seen = To p; skipped = x; after = q }) (pick-false _ _ (ne_eqb node.kind 8 n) ∙ sym (skips e))
+        ∙ ap (λ (x : Skipped). record { seen = Ok p; skipped = x; after = q }) (pick-false _ _ (ne_eqb node.kind 8 n) ∙ sym (skips e))
 
     -- a node that is where it was
-    pub paces-still : {r : Paced} → still (To at) ≡ seen_motion def at node → (node.kind ≡ 8 → ⊥) → moved_on def at node ≡ To at → r ≡ made_by at at no_skip
+    pub paces-still : {r : Paced} → still (Ok at) ≡ seen_motion def at node → (node.kind ≡ 8 → ⊥) → moved_on def at node ≡ Ok at → r ≡ made_by at at no_skip
         → Paces def at node r
     paces-still e n a f = paces-made at at no_skip (by-sight at at e refl n a) f
 
@@ -164,7 +156,7 @@ module _ (def : Bankdef) (at : Pos) (node : Node) where
 
     -- "8 adds the distance to alignment"
     module _ (k : node.kind ≡ 8) where
-      sight-8 : seen_of def at node ≡ To at
+      sight-8 : seen_of def at node ≡ Ok at
       sight-8 = sees_plain def at node (no_symbol (omega arith))
 
       moves-8 : advanced_of def at node ≡ aligned_to def at node.number (stays_known at.known node) node.index
@@ -173,7 +165,7 @@ module _ (def : Bankdef) (at : Pos) (node : Node) where
       pub paces-align-untold : {r : Paced} → tellable def ≡ false → r ≡ halted_by at 4 → Paces def at node r
       paces-align-untold t f =
           paces-malformed (cross-stuck def at node sound at (Malformed node.index) sight-8
-          (moves-8 ∙ ap (λ (d : Distance). moved_by_distance at d (stays_known at.known node) node.index)
+          (moves-8 ∙ ap (λ (d : Result Skipped Refusal). moved_by_distance at d (stays_known at.known node) node.index)
           (four-when def at.position node.number node.index t)))
           f
 
@@ -181,16 +173,16 @@ module _ (def : Bankdef) (at : Pos) (node : Node) where
           → s ≡ skips_of def bits → r ≡ added_by at bits (stays_known at.known node) s → Paces def at node r
       paces-align bits t d w g =
           let known = stays_known at.known node in
-          let far : distance_of def at.position node.number node.index ≡ Skips (skips_of def bits) =
-          told-when def at.position node.number node.index t ∙ ap (λ (b : ℕ). Skips (skips_of def b)) (sym d) in
+          let far : distance_of def at.position node.number node.index ≡ Ok (skips_of def bits) =
+          told-when def at.position node.number node.index t ∙ ap (λ (b : ℕ). Ok (skips_of def b)) (sym d) in
           let goes : advanced_of def at node ≡ moved_by at bits known node.index =
-          moves-8 ∙ ap (λ (x : Distance). moved_by_distance at x known node.index) far in
+          moves-8 ∙ ap (λ (x : Result Skipped Refusal). moved_by_distance at x known node.index) far in
           let own : aligned_motion def at node.number known node.index ≡ advance_motion def at node = advance-aligned def at node known moves-8 k in
           let f = g ∙ ap (added_by at bits known) w in
           either (leb (at.position + bits) max_position)
           (λ u. paces-made at (onward at bits known) (skips_of def bits)
           (cross-moves def at node sound at (onward at bits known) sight-8 (goes ∙ pick_true _ _ u)
-          ∙ ap (λ (x : Skipped). record { seen = To at; skipped = x; after = onward at bits known })
+          ∙ ap (λ (x : Skipped). record { seen = Ok at; skipped = x; after = onward at bits known })
           (pick_true _ _ (eq-eqb node.kind 8 k) ∙ sym (skips own) ∙ rw (far, u)))
           (f ∙ pick_true _ _ u))
           (λ u. paces-past (cross-stuck def at node sound at (PositionPast node.index) sight-8 (goes ∙ pick-false _ _ u)) (f ∙ pick-false _ _ u))
@@ -203,20 +195,20 @@ module _ (def : Bankdef) (at : Pos) (node : Node) where
       pub paces-symbol-untold : {r : Paced} → tellable def ≡ false → r ≡ halted_by at 4 → Paces def at node r
       paces-symbol-untold t f =
           paces-malformed (cross-blind def at node sound (Malformed node.index) (sym (leads sight)
-          ∙ ap (λ (d : Distance). moved_by_distance at d at.known node.index) (four-when def at.position a node.index t)))
+          ∙ ap (λ (d : Result Skipped Refusal). moved_by_distance at d at.known node.index) (four-when def at.position a node.index t)))
           f
 
       pub paces-symbol : {r : Paced} (bits : ℕ) {s : Skipped} → tellable def ≡ true → bits ≡ distance_to (address_in_bits def at.position) a
           → s ≡ skips_of def bits → r ≡ aligned_by at s → Paces def at node r
       paces-symbol bits t d w g =
-          let far : distance_of def at.position a node.index ≡ Skips (skips_of def bits) =
-          told-when def at.position a node.index t ∙ ap (λ (b : ℕ). Skips (skips_of def b)) (sym d) in
+          let far : distance_of def at.position a node.index ≡ Ok (skips_of def bits) =
+          told-when def at.position a node.index t ∙ ap (λ (b : ℕ). Ok (skips_of def b)) (sym d) in
           let p = onward at bits at.known in
           let f = g ∙ ap (aligned_by at) w in
           either (leb (at.position + bits) max_position)
           (λ u. paces-made p p (skips_of def bits)
-          (by-sight p p {m = motion_of (To p) (skips_of def bits)} (rw (far, u) at sight) refl (λ e. omega arith) (early def p node h))
+          (by-sight p p {m = motion_of (Ok p) (skips_of def bits)} (rw (far, u) at sight) refl (λ e. omega arith) (early def p node h))
           (f ∙ pick_true _ _ u))
           (λ u. paces-past (cross-blind def at node sound (PositionPast node.index)
-          (sym (leads sight) ∙ ap (λ (x : Distance). moved_by_distance at x at.known node.index) far ∙ pick-false _ _ u))
+          (sym (leads sight) ∙ ap (λ (x : Result Skipped Refusal). moved_by_distance at x at.known node.index) far ∙ pick-false _ _ u))
           (f ∙ pick-false _ _ u))

@@ -1,12 +1,10 @@
 -- What holds of every advance and of every position that is seen: how far it moves and whether it is known, kind by kind; and that 5 is
 -- given exactly when a sum passes the limit.
-use Rattle.std.specs.Prelude.{ℕ, ◌+◌, ◌≤◌, ◌<◌, ◌≡◌, true, ◌⊎◌, ◌↔◌}
+use Rattle.std.specs.Prelude.{ℕ, ◌+◌, ◌≤◌, ◌<◌, ◌≡◌, true, ◌⊎◌, ◌↔◌, Ok, Some}
 use Rattle.prelude.specs.Limits.{max_position}
-use Rattle.prelude.specs.declared.Opt.TheVariants.{Some}
 use Rattle.bankdef.specs.declared.Bankdef.{Bankdef}
 use Rattle.iter.specs.Distance.{distance_of}
 use Rattle.iter.specs.Figures.{OuterSymbol, SoundState}
-use Rattle.iter.specs.declared.Distance.TheVariants.{Skips}
 use Rattle.iter.specs.declared.Skipped.{Skipped}
 use Rattle.nodes.specs.declared.Node.{Node}
 use Rattle.iter.specs.declared.Pos.{Pos}
@@ -17,7 +15,7 @@ pub record Moves (def : Bankdef) (at : Pos) (node : Node) (q : Pos) : Type 0 whe
   pub adds-number : 4 ≤ node.kind → node.kind ≤ 7 → q.position ≡ at.position + node.number
   -- "8 adds the distance to alignment"
   pub adds-distance : node.kind ≡ 8
-      → (s : Skipped) × (distance_of def at.position node.number node.index ≡ Skips s) × (q.position ≡ at.position + s.bits)
+      → (s : Skipped) × (distance_of def at.position node.number node.index ≡ Ok s) × (q.position ≡ at.position + s.bits)
   -- "9 sets the position"
   pub sets-position : node.kind ≡ 9 → q.position ≡ node.number
   -- no other kind moves it
@@ -34,7 +32,7 @@ pub record Moves (def : Bankdef) (at : Pos) (node : Node) (q : Pos) : Type 0 whe
 -- the bits that a node's advance adds
 pub data AddsBits (def : Bankdef) (at : Pos) (node : Node) : ℕ → Type 0 where
   number : 4 ≤ node.kind → node.kind ≤ 7 → AddsBits def at node node.number
-  distance : node.kind ≡ 8 → (s : Skipped) → distance_of def at.position node.number node.index ≡ Skips s → AddsBits def at node s.bits
+  distance : node.kind ≡ 8 → (s : Skipped) → distance_of def at.position node.number node.index ≡ Ok s → AddsBits def at node s.bits
 
 -- "5: a position would pass 4,294,967,295"
 pub record PassesLimit (def : Bankdef) (at : Pos) (node : Node) : Type 0 where
@@ -49,5 +47,5 @@ pub record SightPasses (def : Bankdef) (at : Pos) (node : Node) : Type 0 where
   pub align : ℕ
   pub has-align : def.align ≡ Some align
   pub skips : Skipped
-  pub has-skips : distance_of def at.position align node.index ≡ Skips skips
+  pub has-skips : distance_of def at.position align node.index ≡ Ok skips
   pub past : max_position < at.position + skips.bits

@@ -1,11 +1,10 @@
 -- The distance to an alignment, over the integers (document 01, "The walk").
-use Rattle.std.specs.Prelude.{ℕ, suc, ◌-◌, ◌/◌, ◌%◌, Bool, not, ◌&&◌, eqb, leb, ℤ, pos, negsuc, ◌+ℤ◌, ◌*ℤ◌}
+use Rattle.std.specs.Prelude.{ℕ, suc, ◌-◌, ◌/◌, ◌%◌, Bool, not, ◌&&◌, eqb, leb, ℤ, pos, negsuc, ◌+ℤ◌, ◌*ℤ◌, Result, Ok, Err}
 use Rattle.prelude.specs.Limits.{max_start}
 use Rattle.prelude.specs.Pick.{pick}
 use Rattle.prelude.specs.declared.Refusal.TheVariants.{Malformed}
+use Rattle.prelude.specs.declared.Refusal.{Refusal}
 use Rattle.bankdef.specs.declared.Bankdef.{Bankdef}
-use Rattle.iter.specs.declared.Distance.{Distance}
-use Rattle.iter.specs.declared.Distance.TheVariants.{Skips, Refused}
 use Rattle.iter.specs.declared.Skipped.{Skipped}
 
 -- how far an address is from 0
@@ -46,5 +45,5 @@ abbrev pub no_skip : Skipped
 no_skip = record { bits = 0; units = 0 }
 
 -- The distance of a position in a bank. `node` is the place of a refusal: 0 in a call of its own.
-unfoldable pub distance_of : Bankdef → ℕ → ℕ → ℕ → Distance
-distance_of def position a node = pick (tellable def) (Skips (skips_of def (distance_to (address_in_bits def position) a))) (Refused (Malformed node))
+unfoldable pub distance_of : Bankdef → ℕ → ℕ → ℕ → Result Skipped Refusal
+distance_of def position a node = pick (tellable def) (Ok (skips_of def (distance_to (address_in_bits def position) a))) (Err (Malformed node))

@@ -1,36 +1,29 @@
 -- What a caller is told of a distance, an address and a move, in document 01's figures, and of what is skipped: a case for each sentence,
 -- by plain facts. The promises of `bits_until_alignment` and `get_address` use them.
-use Rattle.std.specs.Prelude.{ℕ, suc, ◌+◌, ◌*◌, ◌≤◌, ◌<◌, ◌≡◌, Bool, true, false, ◌⊎◌, ◌↔◌, ℤ}
+use Rattle.std.specs.Prelude.{ℕ, suc, ◌+◌, ◌*◌, ◌≤◌, ◌<◌, ◌≡◌, Bool, true, false, ◌⊎◌, ◌↔◌, ℤ, Result, Ok, Err, None, Some}
 use Rattle.prelude.specs.Limits.{max_position}
 use Rattle.prelude.specs.Told.{Told, gives, refuses, told_refusal}
-use Rattle.prelude.specs.declared.Opt.TheVariants.{None, Some}
 use Rattle.prelude.specs.declared.Place.TheVariants.{One}
 use Rattle.prelude.specs.declared.Refusal.{Refusal}
 use Rattle.bankdef.specs.declared.Bankdef.{Bankdef}
 use Rattle.iter.specs.Aligned.{Aligns}
 use Rattle.iter.specs.Distance.{tellable, address_in_bits, no_skip, distance_of}
 use Rattle.iter.specs.Address.{units_from}
-use Rattle.iter.specs.declared.Address.{Address}
-use Rattle.iter.specs.declared.Address.TheVariants.{At, Refused as NoAddress}
-use Rattle.iter.specs.declared.Distance.{Distance}
-use Rattle.iter.specs.declared.Distance.TheVariants.{Skips, Refused as NoDistance}
 use Rattle.iter.specs.declared.Skipped.{Skipped}
-use Rattle.iter.specs.declared.Moved.{Moved}
-use Rattle.iter.specs.declared.Moved.TheVariants.{To, Refused}
 use Rattle.nodes.specs.declared.Node.{Node}
 use Rattle.iter.specs.declared.Pos.{Pos}
 
-abbrev pub told_distance : Distance → Told Skipped
-told_distance (Skips s) = gives s
-told_distance (NoDistance why) = told_refusal why
+abbrev pub told_distance : Result Skipped Refusal → Told Skipped
+told_distance (Ok s) = gives s
+told_distance (Err why) = told_refusal why
 
-abbrev pub told_address : Address → Told ℤ
-told_address (At z) = gives z
-told_address (NoAddress why) = told_refusal why
+abbrev pub told_address : Result ℤ Refusal → Told ℤ
+told_address (Ok z) = gives z
+told_address (Err why) = told_refusal why
 
-abbrev pub told_moved : Moved → Told Pos
-told_moved (To p) = gives p
-told_moved (Refused why) = told_refusal why
+abbrev pub told_moved : Result Pos Refusal → Told Pos
+told_moved (Ok p) = gives p
+told_moved (Err why) = told_refusal why
 
 -- "the count of whole address units it skips (distance over unit, rounded down)": so many fit into the bits, and one more does not
 pub record WholeUnits (unit bits units : ℕ) : Type 0 where
@@ -59,8 +52,8 @@ pub data Adds (at : Pos) (bits : ℕ) (known : Bool) (node : ℕ) : Told Pos →
 
 -- A position moved on to an alignment: the distance is added, if it can be told.
 pub data Aligning (def : Bankdef) (at : Pos) (a : ℕ) (known : Bool) (node : ℕ) : Told Pos → Type 0 where
-  by : (s : Skipped) {t : Told Pos} → distance_of def at.position a node ≡ Skips s → Adds at s.bits known node t → Aligning def at a known node t
-  untold : (why : Refusal) → distance_of def at.position a node ≡ NoDistance why → Aligning def at a known node (told_refusal why)
+  by : (s : Skipped) {t : Told Pos} → distance_of def at.position a node ≡ Ok s → Adds at s.bits known node t → Aligning def at a known node t
+  untold : (why : Refusal) → distance_of def at.position a node ≡ Err why → Aligning def at a known node (told_refusal why)
 
 -- "a symbol (label or constant) of depth 0"
 abbrev pub OuterSymbol : Node → Type 0
@@ -103,19 +96,19 @@ pub data Advances (def : Bankdef) (at : Pos) (node : Node) : Told Pos → Type 0
 -- ---- what is skipped (document 02, Ticket 2)
 
 -- A move to an alignment skips what its distance says; one that is refused skips nothing, as does a distance that cannot be told.
-pub data Skipping (def : Bankdef) (at : Pos) (a node : ℕ) : Moved → Skipped → Type 0 where
-  by : {p : Pos} {s : Skipped} → distance_of def at.position a node ≡ Skips s → Skipping def at a node (To p) s
-  refused : {why : Refusal} → Skipping def at a node (Refused why) no_skip
-  untold : {m : Moved} (why : Refusal) → distance_of def at.position a node ≡ NoDistance why → Skipping def at a node m no_skip
+pub data Skipping (def : Bankdef) (at : Pos) (a node : ℕ) : Result Pos Refusal → Skipped → Type 0 where
+  by : {p : Pos} {s : Skipped} → distance_of def at.position a node ≡ Ok s → Skipping def at a node (Ok p) s
+  refused : {why : Refusal} → Skipping def at a node (Err why) no_skip
+  untold : {m : Result Pos Refusal} (why : Refusal) → distance_of def at.position a node ≡ Err why → Skipping def at a node m no_skip
 
 -- To what a node sees: label alignment of a symbol of depth 0, label or constant.
-pub data SightSkips (def : Bankdef) (at : Pos) (node : Node) : Moved → Skipped → Type 0 where
-  other : {m : Moved} → (OuterSymbol node → ⊥) → SightSkips def at node m no_skip
-  unaligned : {m : Moved} → def.align ≡ None → SightSkips def at node m no_skip
-  aligned : {m : Moved} {s : Skipped} → OuterSymbol node → (a : ℕ) → def.align ≡ Some a → Skipping def at a node.index m s
+pub data SightSkips (def : Bankdef) (at : Pos) (node : Node) : Result Pos Refusal → Skipped → Type 0 where
+  other : {m : Result Pos Refusal} → (OuterSymbol node → ⊥) → SightSkips def at node m no_skip
+  unaligned : {m : Result Pos Refusal} → def.align ≡ None → SightSkips def at node m no_skip
+  aligned : {m : Result Pos Refusal} {s : Skipped} → OuterSymbol node → (a : ℕ) → def.align ≡ Some a → Skipping def at a node.index m s
       → SightSkips def at node m s
 
 -- In its own advance: `align`, and no other kind. "An `addr` that moves the position is not padding."
-pub data OwnSkips (def : Bankdef) (at : Pos) (node : Node) : Moved → Skipped → Type 0 where
-  other : {m : Moved} → (node.kind ≡ 8 → ⊥) → OwnSkips def at node m no_skip
-  aligns : {m : Moved} {s : Skipped} → node.kind ≡ 8 → Skipping def at node.number node.index m s → OwnSkips def at node m s
+pub data OwnSkips (def : Bankdef) (at : Pos) (node : Node) : Result Pos Refusal → Skipped → Type 0 where
+  other : {m : Result Pos Refusal} → (node.kind ≡ 8 → ⊥) → OwnSkips def at node m no_skip
+  aligns : {m : Result Pos Refusal} {s : Skipped} → node.kind ≡ 8 → Skipping def at node.number node.index m s → OwnSkips def at node m s

@@ -1,10 +1,8 @@
 -- A step in numbers: a node's crossing told by numbers alone, so that a loop may hold it and store it into its own walk.
-use Rattle.std.specs.Prelude.{ℕ, ◌+◌, ◌≡◌, Bool, false, eqb, leb, ℤ}
+use Rattle.std.specs.Prelude.{ℕ, ◌+◌, ◌≡◌, Bool, false, eqb, leb, ℤ, Result, Ok, Err, Option, None}
 use Rattle.prelude.specs.Limits.{max_position}
 use Rattle.prelude.specs.Pick.{pick}
 use Rattle.prelude.specs.Refusals.{number_of}
-use Rattle.prelude.specs.declared.Opt.{Opt}
-use Rattle.prelude.specs.declared.Opt.TheVariants.{None}
 use Rattle.prelude.specs.declared.Refusal.{Refusal}
 use Rattle.prelude.specs.declared.Refusal.TheVariants.{Malformed, PositionPast}
 use Rattle.bankdef.specs.declared.Bankdef.{Bankdef}
@@ -12,22 +10,20 @@ use Rattle.iter.specs.Crossing.{crossing_of}
 use Rattle.iter.specs.Distance.{no_skip}
 use Rattle.iter.specs.Step.{origin}
 use Rattle.iter.specs.declared.Crossing.{Crossing}
-use Rattle.iter.specs.declared.Moved.{Moved}
-use Rattle.iter.specs.declared.Moved.TheVariants.{To, Refused}
 use Rattle.nodes.specs.declared.Node.{Node}
 use Rattle.iter.specs.declared.Paced.{Paced}
 use Rattle.iter.specs.declared.Pos.{Pos}
 use Rattle.iter.specs.declared.Skipped.{Skipped}
 
 -- the number of what a step is refused for; 0 where it is made
-abbrev pub fault_in : Moved → ℕ
-fault_in (To p) = 0
-fault_in (Refused why) = number_of why
+abbrev pub fault_in : Result Pos Refusal → ℕ
+fault_in (Ok p) = 0
+fault_in (Err why) = number_of why
 
 -- the position that is seen; a node that is refused sees none, and counts as at the start
-abbrev pub seen_in : Moved → Pos
-seen_in (To p) = p
-seen_in (Refused why) = origin
+abbrev pub seen_in : Result Pos Refusal → Pos
+seen_in (Ok p) = p
+seen_in (Err why) = origin
 
 -- a crossing's numbers
 abbrev pub numbers_of : Crossing → Paced
@@ -38,8 +34,8 @@ abbrev pub why_by : ℕ → ℕ → Refusal
 why_by fault index = pick (eqb fault 4) (Malformed index) (PositionPast index)
 
 -- what the node sees, by the numbers
-abbrev pub seen_by : Paced → ℕ → Moved
-seen_by p index = pick (eqb p.fault 0) (To p.seen) (Refused (why_by p.fault index))
+abbrev pub seen_by : Paced → ℕ → Result Pos Refusal
+seen_by p index = pick (eqb p.fault 0) (Ok p.seen) (Err (why_by p.fault index))
 
 -- the crossing that the numbers tell
 abbrev pub crossed_by : ℕ → Paced → Crossing
@@ -81,7 +77,7 @@ Still def node = (at : Pos) → Paces def at node (made_by at at no_skip)
 -- ---- a step's parts
 
 -- what a step reads of a bank's record: its address unit, its start and its label alignment
-abbrev pub bank_read : ℕ → ℤ → Opt → Bankdef
+abbrev pub bank_read : ℕ → ℤ → Option ℕ → Bankdef
 bank_read unit start align = record { unit = unit; start = start; size = None; offset = None; align = align; fill = false; fill_bit = 0 }
 
 -- a node by its parts

@@ -1,15 +1,11 @@
 -- A step of the walk: what a node sees, and how it moves its bank's position (document 01, "The walk").
-use Rattle.std.specs.Prelude.{ℕ, ◌+◌, Bool, true, ◌&&◌, ◌||◌, eqb, leb, ltb, get_or, set, replicate}
+use Rattle.std.specs.Prelude.{ℕ, ◌+◌, Bool, true, ◌&&◌, ◌||◌, eqb, leb, ltb, get_or, set, replicate, Result, Ok, Err, Option, None, Some}
 use Rattle.prelude.specs.Limits.{max_banks, max_position}
 use Rattle.prelude.specs.Pick.{pick}
 use Rattle.prelude.specs.declared.Refusal.{Refusal}
 use Rattle.prelude.specs.declared.Refusal.TheVariants.{Malformed, PositionPast}
-use Rattle.prelude.specs.declared.Opt.{Opt}
-use Rattle.prelude.specs.declared.Opt.TheVariants.{None, Some}
 use Rattle.bankdef.specs.declared.Bankdef.{Bankdef}
 use Rattle.iter.specs.Distance.{no_skip, distance_of}
-use Rattle.iter.specs.declared.Distance.{Distance}
-use Rattle.iter.specs.declared.Distance.TheVariants.{Skips, Refused as NoDistance}
 use Rattle.iter.specs.declared.Pos.{Pos}
 use Rattle.nodes.specs.Kinds.{is_switch, is_symbol, is_declared, is_align, reads_state, does_of, by_doing}
 use Rattle.nodes.specs.declared.Node.{Node}
@@ -18,8 +14,6 @@ use Rattle.iter.specs.declared.Walk.{Walk}
 use Rattle.iter.specs.declared.Skipped.{Skipped}
 use Rattle.iter.specs.declared.Motion.{Motion}
 use Rattle.iter.specs.declared.Stepped.{Stepped}
-use Rattle.iter.specs.declared.Moved.{Moved}
-use Rattle.iter.specs.declared.Moved.TheVariants.{To, Refused}
 
 -- "Each bank's position starts at 0, known"
 abbrev pub origin : Pos
@@ -34,32 +28,32 @@ unfoldable pub start_of : Walk
 start_of = record { at = replicate max_banks origin; lost = replicate max_banks no_lost; bank = 0 }
 
 -- "5: a position would pass 4,294,967,295"
-abbrev pub moved_by : Pos → ℕ → Bool → ℕ → Moved
+abbrev pub moved_by : Pos → ℕ → Bool → ℕ → Result Pos Refusal
 moved_by at bits known node =
     pick (leb (at.position + bits) max_position)
-    (To (record { position = at.position + bits; known = known }))
-    (Refused (PositionPast node))
+    (Ok (record { position = at.position + bits; known = known }))
+    (Err (PositionPast node))
 
-abbrev pub moved_by_distance : Pos → Distance → Bool → ℕ → Moved
-moved_by_distance at (Skips s) known node = moved_by at s.bits known node
-moved_by_distance at (NoDistance why) known node = Refused why
+abbrev pub moved_by_distance : Pos → Result Skipped Refusal → Bool → ℕ → Result Pos Refusal
+moved_by_distance at (Ok s) known node = moved_by at s.bits known node
+moved_by_distance at (Err why) known node = Err why
 
 -- "8 adds the distance to alignment"
-abbrev pub aligned_to : Bankdef → Pos → ℕ → Bool → ℕ → Moved
+abbrev pub aligned_to : Bankdef → Pos → ℕ → Bool → ℕ → Result Pos Refusal
 aligned_to def at a known node = moved_by_distance at (distance_of def at.position a node) known node
 
 -- "a symbol (label or constant) of depth 0": kinds 2 and 3, whose operand is a depth
 abbrev pub outermost_symbol : Node → Bool
 outermost_symbol node = is_symbol node.kind && eqb node.operand 0
 
-abbrev pub label_aligned : Bankdef → Opt → Pos → ℕ → Moved
-label_aligned def None at node = To at
+abbrev pub label_aligned : Bankdef → Option ℕ → Pos → ℕ → Result Pos Refusal
+label_aligned def None at node = Ok at
 label_aligned def (Some a) at node = aligned_to def at a at.known node
 
 -- "A node sees its bank's position before its own advance, except that a symbol (label or constant) of depth 0 in a bank with label
 -- alignment is aligned first."
-unfoldable pub seen_of : Bankdef → Pos → Node → Moved
-seen_of def at node = pick (outermost_symbol node) (label_aligned def def.align at node.index) (To at)
+unfoldable pub seen_of : Bankdef → Pos → Node → Result Pos Refusal
+seen_of def at node = pick (outermost_symbol node) (label_aligned def def.align at node.index) (Ok at)
 
 -- "state (0 resolved, 1 stable, 2 unresolved)"
 abbrev pub resolved : Node → Bool
@@ -71,43 +65,43 @@ bad_state node = reads_state node.kind && ltb 2 node.state
 
 -- "Afterwards 4 to 7 add their number, 8 adds the distance to alignment, 9 sets the position. Known-ness: 4, 6, 7, 8 keep it only if
 -- state is 0; 5 and symbols leave it; 9 makes it so exactly if state is 0." "Any other kind number is refused."
-unfoldable pub moved_on : Bankdef → Pos → Node → Moved
+unfoldable pub moved_on : Bankdef → Pos → Node → Result Pos Refusal
 moved_on def at node =
     let known = pick (is_declared node.kind) at.known (at.known && resolved node) in
     by_doing (does_of node.kind)
-    (To at)
+    (Ok at)
     (moved_by at node.number known node.index)
     (aligned_to def at node.number known node.index)
-    (To (record { position = node.number; known = resolved node }))
-    (Refused (Malformed node.index))
+    (Ok (record { position = node.number; known = resolved node }))
+    (Err (Malformed node.index))
 
-unfoldable pub advanced_of : Bankdef → Pos → Node → Moved
-advanced_of def at node = pick (bad_state node) (Refused (Malformed node.index)) (moved_on def at node)
+unfoldable pub advanced_of : Bankdef → Pos → Node → Result Pos Refusal
+advanced_of def at node = pick (bad_state node) (Err (Malformed node.index)) (moved_on def at node)
 
 -- ---- what is skipped (document 02, Ticket 2)
 
 -- "Everything that uses the distance passes both on": what a distance skips; one that cannot be told skips nothing.
-abbrev pub skips_by : Distance → Skipped
-skips_by (Skips s) = s
-skips_by (NoDistance why) = no_skip
+abbrev pub skips_by : Result Skipped Refusal → Skipped
+skips_by (Ok s) = s
+skips_by (Err why) = no_skip
 
 -- a move that is refused skips nothing
-abbrev pub when_made : Moved → Skipped → Skipped
-when_made (To p) s = s
-when_made (Refused why) s = no_skip
+abbrev pub when_made : Result Pos Refusal → Skipped → Skipped
+when_made (Ok p) s = s
+when_made (Err why) s = no_skip
 
 -- a move, and what it skips
-abbrev pub motion_of : Moved → Skipped → Motion
+abbrev pub motion_of : Result Pos Refusal → Skipped → Motion
 motion_of m s = record { to = m; skipped = when_made m s }
 
-abbrev pub still : Moved → Motion
+abbrev pub still : Result Pos Refusal → Motion
 still m = record { to = m; skipped = no_skip }
 
 abbrev pub aligned_motion : Bankdef → Pos → ℕ → Bool → ℕ → Motion
 aligned_motion def at a known node = motion_of (aligned_to def at a known node) (skips_by (distance_of def at.position a node))
 
 -- "label alignment": in a bank that has it
-abbrev pub label_skips : Bankdef → Opt → Pos → ℕ → Skipped
+abbrev pub label_skips : Bankdef → Option ℕ → Pos → ℕ → Skipped
 label_skips def None at node = no_skip
 label_skips def (Some a) at node = skips_by (distance_of def at.position a node)
 
@@ -155,19 +149,19 @@ kept walk bank p s =
 
 -- a step that is refused
 abbrev pub stopped : Walk → Refusal → Stepped
-stopped walk why = record { seen = Refused why; skipped = no_skip; walk = walk }
+stopped walk why = record { seen = Err why; skipped = no_skip; walk = walk }
 
-abbrev pub stepped_to : Walk → ℕ → Pos → Skipped → Moved → Stepped
-stepped_to walk bank p s (To q) = record { seen = To p; skipped = s; walk = kept walk bank q s }
-stepped_to walk bank p s (Refused why) = stopped walk why
+abbrev pub stepped_to : Walk → ℕ → Pos → Skipped → Result Pos Refusal → Stepped
+stepped_to walk bank p s (Ok q) = record { seen = Ok p; skipped = s; walk = kept walk bank q s }
+stepped_to walk bank p s (Err why) = stopped walk why
 
 -- what a step counts in the bank that its node stands in, from the position there to the one that the node sees
 abbrev pub step_skips : Bankdef → Pos → Pos → Node → Skipped
 step_skips def at p node = counted node (seen_skips def at node) (advance_skips def p node)
 
-abbrev pub stepped_from : Bankdef → Walk → ℕ → Node → Moved → Stepped
-stepped_from def walk bank node (To p) = stepped_to walk bank p (step_skips def (get_or walk.at bank origin) p node) (advanced_of def p node)
-stepped_from def walk bank node (Refused why) = stopped walk why
+abbrev pub stepped_from : Bankdef → Walk → ℕ → Node → Result Pos Refusal → Stepped
+stepped_from def walk bank node (Ok p) = stepped_to walk bank p (step_skips def (get_or walk.at bank origin) p node) (advanced_of def p node)
+stepped_from def walk bank node (Err why) = stopped walk why
 
 -- "4: .. a call's number is malformed: .. bank number, state"
 abbrev pub malformed : ℕ → Node → Bool

@@ -1,5 +1,5 @@
 -- What is told of a step, in document 01's figures: what the node sees or why it is refused, what is skipped, and the walk then.
-use Rattle.std.specs.Prelude.{ℕ, ◌≤◌, ◌<◌, ◌≡◌}
+use Rattle.std.specs.Prelude.{ℕ, ◌≤◌, ◌<◌, ◌≡◌, Ok}
 use Rattle.prelude.specs.Limits.{max_banks}
 use Rattle.prelude.specs.Told.{Told, gives, refuses}
 use Rattle.prelude.specs.declared.Place.{Place}
@@ -9,7 +9,6 @@ use Rattle.iter.specs.Distance.{no_skip}
 use Rattle.iter.specs.Figures.{told_moved, Sees, SoundState, Advances, SightSkips, OwnSkips}
 use Rattle.iter.specs.Step.{bank_after, kept}
 use Rattle.iter.specs.StepCases.{standing}
-use Rattle.iter.specs.declared.Moved.TheVariants.{To}
 use Rattle.nodes.specs.declared.Node.{Node}
 use Rattle.iter.specs.declared.Pos.{Pos}
 use Rattle.iter.specs.declared.Skipped.{Skipped}
@@ -19,8 +18,8 @@ use Rattle.iter.specs.declared.Walk.{Walk}
 -- "bits lost to `align` and to label alignment": an `align` skips in its own advance, from what it sees to where it leads; any other node
 -- in what it sees, from where its bank stands.
 pub data Counts (def : Bankdef) (at p q : Pos) (node : Node) : Skipped → Type 0 where
-  own : {s : Skipped} → node.kind ≡ 8 → OwnSkips def p node (To q) s → Counts def at p q node s
-  sight : {s : Skipped} → (node.kind ≡ 8 → ⊥) → SightSkips def at node (To p) s → Counts def at p q node s
+  own : {s : Skipped} → node.kind ≡ 8 → OwnSkips def p node (Ok q) s → Counts def at p q node s
+  sight : {s : Skipped} → (node.kind ≡ 8 → ⊥) → SightSkips def at node (Ok p) s → Counts def at p q node s
 
 module _ (def : Bankdef) (walk : Walk) (node : Node) where
   -- the bank that the node stands in

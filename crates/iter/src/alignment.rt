@@ -4,11 +4,12 @@ ghost use Rattle.iter.specs.Distance.{tellable, address_in_bits, gap, distance_t
 ghost use Rattle.iter.specs.Figures.{told_distance, Measures};
 ghost use Rattle.iter.specs.Signs.{in_bits, remainder_of};
 
-use crate::{Distance, Skipped};
-use bankdef::{Bankdef, magnitude};
-use prelude::Refusal;
+use crate::Skipped;
+use bankdef::Bankdef;
+use prelude::{MAX_START, Refusal};
 
 // An address in bits, on its side of 0: so many bits before it, or from it on.
+// stays: specs/Signs.in_bits and remainder_of are said of it, so no rem_euclid of an i64
 #[derive(Clone, Copy)]
 pub enum InBits {
     Below(u64),
@@ -19,11 +20,7 @@ pub enum InBits {
 pub fn is_tellable(def: Bankdef) -> bool
     ensures { result ≡ tellable def }
 {
-    let start = def.start;
-    if def.unit == 0 {
-        return false;
-    }
-    magnitude(start) <= prelude::MAX_START
+    def.unit != 0 && def.start.unsigned_abs() <= MAX_START
 }
 
 // "start × unit + position". Both sides of 0 are reckoned in 64 bits: a start of 2^40 units stays below 2^56.
@@ -31,17 +28,14 @@ fn address_in_bits(def: Bankdef, position: u32) -> InBits
     requires { tellable def ≡ true }
     ensures { result ≡ in_bits (address_in_bits def position) }
 {
-    let start = def.start;
-    let away = magnitude(start) * (def.unit as u64);
-    let at = position as u64;
-    if start < 0 {
-        if at < away {
-            InBits::Below(away - at)
-        } else {
-            InBits::At(at - away)
-        }
-    } else {
+    let away = def.start.unsigned_abs() * u64::from(def.unit);
+    let at = u64::from(position);
+    if def.start >= 0 {
         InBits::At(away + at)
+    } else if at < away {
+        InBits::Below(away - at)
+    } else {
+        InBits::At(at - away)
     }
 }
 
@@ -50,7 +44,7 @@ fn remainder_by(bits: InBits, alignment: u32) -> u32
     requires { 0 < alignment }
     ensures { (result ≡ remainder_of bits alignment) × (result < alignment) }
 {
-    let a = alignment as u64;
+    let a = u64::from(alignment);
     match bits {
         InBits::At(n) => (n % a) as u32,
         InBits::Below(n) => ((a - n % a) % a) as u32,
@@ -72,7 +66,7 @@ pub(crate) fn in_units(def: Bankdef, bits: u32) -> Skipped
 {
     Skipped {
         bits,
-        units: bits / (def.unit as u32),
+        units: bits / u32::from(def.unit),
     }
 }
 
@@ -91,16 +85,17 @@ pub(crate) fn distance_in_bits(def: Bankdef, position: u32, alignment: u32) -> u
 }
 
 // The way from a position to the next multiple of the alignment. `node` is the place of a refusal.
-pub fn bits_until_alignment(def: Bankdef, position: u32, alignment: u32, node: u64) -> Distance
+pub fn bits_until_alignment(
+    def: Bankdef,
+    position: u32,
+    alignment: u32,
+    node: u64,
+) -> Result<Skipped, Refusal>
     ensures value { result ≡ distance_of def position alignment node }
     ensures told { Measures def position alignment node (told_distance result) }
 {
     if !is_tellable(def) {
-        return Distance::Refused(Refusal::Malformed(node));
+        return Err(Refusal::Malformed(node));
     }
-    if alignment == 0 {
-        return Distance::Skips(Skipped { bits: 0, units: 0 });
-    }
-    let r = remainder_by(address_in_bits(def, position), alignment);
-    Distance::Skips(in_units(def, gap_to(r, alignment)))
+    Ok(in_units(def, distance_in_bits(def, position, alignment)))
 }

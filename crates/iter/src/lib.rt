@@ -14,6 +14,7 @@ use prelude::Refusal;
 pub use steps::{bank_after, lost_after, start};
 
 // A bank's position in bits, and whether it is known: the Rust's `BankData`.
+// stays: a position that is not known is read too, so the two are no option
 #[derive(Clone, Copy)]
 pub struct Pos {
     pub position: u32,
@@ -44,31 +45,10 @@ pub struct Skipped {
     pub units: u32,
 }
 
-// The distance to an alignment.
-#[derive(Clone, Copy)]
-pub enum Distance {
-    Skips(Skipped),
-    Refused(Refusal),
-}
-
-// An address in whole units.
-#[derive(Clone, Copy)]
-pub enum Address {
-    At(i64),
-    Refused(Refusal),
-}
-
-// A position that a node sees, or moves to.
-#[derive(Clone, Copy)]
-pub enum Moved {
-    To(Pos),
-    Refused(Refusal),
-}
-
 // A position that a node sees or moves to, and what is skipped on the way. Refused, nothing is.
 #[derive(Clone, Copy)]
 pub struct Motion {
-    pub to: Moved,
+    pub to: Result<Pos, Refusal>,
     pub skipped: Skipped,
 }
 
@@ -76,7 +56,7 @@ pub struct Motion {
 // Refused, nothing is skipped and the position is the one given.
 #[derive(Clone, Copy)]
 pub struct Crossing {
-    pub seen: Moved,
+    pub seen: Result<Pos, Refusal>,
     pub skipped: Skipped,
     pub after: Pos,
 }
@@ -95,7 +75,7 @@ pub struct Paced {
 // skipped and the walk is the walk given.
 #[derive(Clone, Copy)]
 pub struct Stepped {
-    pub seen: Moved,
+    pub seen: Result<Pos, Refusal>,
     pub skipped: Skipped,
     pub walk: Walk,
 }

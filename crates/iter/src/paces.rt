@@ -1,17 +1,16 @@
 // One node's step, in numbers: what it sees, where it leads and what its alignment skips, kind by kind.
 ghost use Rattle.std.specs.Prelude.{◌≡◌, true, false, ◌≤◌};
-ghost use Rattle.prelude.specs.declared.Opt.TheVariants.{None};
 ghost use Rattle.iter.specs.Distance.{no_skip};
 ghost use Rattle.iter.specs.Known.{stays_known};
 ghost use Rattle.iter.specs.Pace.{Paces, Still, bank_read, node_with, made_by, halted_by, added_by, aligned_by, seen_by, why_by};
 ghost use Rattle.iter.specs.Step.{bad_state};
 
 use crate::alignment::{distance_in_bits, in_units, is_tellable};
-use crate::{Moved, Paced, Pos, Skipped};
+use crate::{Paced, Pos, Skipped};
 use bankdef::Bankdef;
 use nodes::{Doing, Node, does, reads_state};
 use prelude::{
-    ASSERT, CONSTANT, DATA, INSTRUCTION, LABEL, NOTHING, Opt, RESERVE, RESOLVED, Refusal, SWITCH,
+    ASSERT, CONSTANT, DATA, INSTRUCTION, LABEL, NOTHING, RESERVE, RESOLVED, Refusal, SWITCH,
     UNRESOLVED,
 };
 
@@ -21,6 +20,8 @@ pub const MADE: u8 = 0;
 const MALFORMED: u8 = 4;
 
 const POSITION_PAST: u8 = 5;
+
+const NO_SKIP: Skipped = Skipped { bits: 0, units: 0 };
 
 // A step that is made.
 fn made(seen: Pos, after: Pos, skipped: Skipped) -> Paced
@@ -38,7 +39,7 @@ fn made(seen: Pos, after: Pos, skipped: Skipped) -> Paced
 fn stood(at: Pos) -> Paced
     ensures { result ≡ made_by at at no_skip }
 {
-    made(at, at, Skipped { bits: 0, units: 0 })
+    made(at, at, NO_SKIP)
 }
 
 // A step that is refused: nothing is skipped, and the position is the one given.
@@ -52,7 +53,7 @@ fn halted(at: Pos, fault: u8) -> Paced
             known: true,
         },
         after: at,
-        skipped: Skipped { bits: 0, units: 0 },
+        skipped: NO_SKIP,
     }
 }
 
@@ -60,27 +61,21 @@ fn halted(at: Pos, fault: u8) -> Paced
 fn added(at: Pos, bits: u32, known: bool, lost: Skipped) -> Paced
     ensures { result ≡ added_by at bits known lost }
 {
-    let sum = (at.position as u64) + (bits as u64);
-    if prelude::MAX_POSITION < sum {
+    let Some(position) = at.position.checked_add(bits) else {
         return halted(at, POSITION_PAST);
-    }
-    let after = Pos {
-        position: sum as u32,
-        known,
     };
-    made(at, after, lost)
+    made(at, Pos { position, known }, lost)
 }
 
 // The same where the node is "aligned first", and sees the position moved on.
 fn aligned_first(at: Pos, skipped: Skipped) -> Paced
     ensures { result ≡ aligned_by at skipped }
 {
-    let sum = (at.position as u64) + (skipped.bits as u64);
-    if prelude::MAX_POSITION < sum {
+    let Some(position) = at.position.checked_add(skipped.bits) else {
         return halted(at, POSITION_PAST);
-    }
+    };
     let seen = Pos {
-        position: sum as u32,
+        position,
         known: at.known,
     };
     made(seen, seen, skipped)
@@ -93,7 +88,7 @@ pub fn stays_known(known: bool, node: Node) -> bool
     if node.kind == DATA {
         return known;
     }
-    if known { node.state == RESOLVED } else { false }
+    known && node.state == RESOLVED
 }
 
 // Whether a node's state is read and is none of "0 resolved, 1 stable, 2 unresolved": "0, 1 and 2 don't read the state".
@@ -105,6 +100,7 @@ pub fn is_bad_state(node: Node) -> bool
 
 // "A node sees its bank's position before its own advance, except that a symbol (label or constant) of depth 0 in a bank with label alignment is aligned
 // first.", and is where it is afterwards.
+// stays: here and below `def`, `at` and `node` by themselves, since a struct of them would be stored at each node of a walk
 fn pace_symbol(def: Bankdef, at: Pos, node: Node) -> Paced
     requires node_value { bad_state node ≡ false }
     requires le_kind { (2 ≤ node.kind) × (node.kind ≤ 3) }
@@ -113,10 +109,9 @@ fn pace_symbol(def: Bankdef, at: Pos, node: Node) -> Paced
     if node.operand != 0 {
         return stood(at);
     }
-    let align = def.align;
-    match align {
-        Opt::None => stood(at),
-        Opt::Some(a) => {
+    match def.align {
+        None => stood(at),
+        Some(a) => {
             if !is_tellable(def) {
                 return halted(at, MALFORMED);
             }
@@ -147,15 +142,9 @@ fn pace_by_kind(def: Bankdef, at: Pos, node: Node) -> Paced
         return halted(at, MALFORMED);
     }
     match does(node.kind) {
-        Doing::Stays => stood(at),
-        Doing::Switches => stood(at),
+        Doing::Stays | Doing::Switches => stood(at),
         Doing::Symbol => pace_symbol(def, at, node),
-        Doing::Adds => added(
-            at,
-            node.number,
-            stays_known(at.known, node),
-            Skipped { bits: 0, units: 0 },
-        ),
+        Doing::Adds => added(at, node.number, stays_known(at.known, node), NO_SKIP),
         Doing::Aligns => pace_align(def, at, node),
         // "An `addr` that moves the position is not padding."
         Doing::Sets => made(
@@ -164,7 +153,7 @@ fn pace_by_kind(def: Bankdef, at: Pos, node: Node) -> Paced
                 position: node.number,
                 known: node.state == RESOLVED,
             },
-            Skipped { bits: 0, units: 0 },
+            NO_SKIP,
         ),
         // "Any other kind number is refused."
         Doing::Unknown => halted(at, MALFORMED),
@@ -176,7 +165,7 @@ fn pace_by_kind(def: Bankdef, at: Pos, node: Node) -> Paced
 pub fn pace_of_parts(
     unit: u16,
     start: i64,
-    align: Opt,
+    align: Option<u32>,
     at: Pos,
     index: u64,
     kind: u8,
@@ -189,8 +178,8 @@ pub fn pace_of_parts(
     let def = Bankdef {
         unit,
         start,
-        size: Opt::None,
-        offset: Opt::None,
+        size: None,
+        offset: None,
         align,
         fill: false,
         fill_bit: 0,
@@ -209,11 +198,7 @@ pub fn pace_of_parts(
 fn aligns_no_label(def: Bankdef) -> bool
     ensures { result ≡ true → def.align ≡ None }
 {
-    let align = def.align;
-    match align {
-        Opt::None => true,
-        Opt::Some(_) => false,
-    }
+    matches!(def.align, None)
 }
 
 // Whether a node leaves its bank's position as it finds it, and skips nothing, which most do: kinds 0, 1 and 10, and a symbol that is not "aligned first". This
@@ -224,17 +209,9 @@ fn stands_still(def: Bankdef, node: Node) -> bool
     if is_bad_state(node) {
         return false;
     }
-    let kind = node.kind;
-    match kind {
-        NOTHING..=SWITCH => true,
-        LABEL..=CONSTANT => {
-            if node.operand == 0 {
-                aligns_no_label(def)
-            } else {
-                true
-            }
-        }
-        ASSERT => true,
+    match node.kind {
+        NOTHING..=SWITCH | ASSERT => true,
+        LABEL..=CONSTANT => node.operand != 0 || aligns_no_label(def),
         _ => false,
     }
 }
@@ -243,14 +220,7 @@ fn stands_still(def: Bankdef, node: Node) -> bool
 fn adds_number(node: Node) -> bool
     ensures { result ≡ true → (bad_state node ≡ false) × (4 ≤ node.kind) × (node.kind ≤ 7) }
 {
-    if is_bad_state(node) {
-        return false;
-    }
-    let kind = node.kind;
-    match kind {
-        INSTRUCTION..=RESERVE => true,
-        _ => false,
-    }
+    !is_bad_state(node) && matches!(node.kind, INSTRUCTION..=RESERVE)
 }
 
 // The step over one node, as the walks make it. No other bank is read, and the answer is numbers alone, so that a loop need not hand its walk about. A node
@@ -262,18 +232,12 @@ pub fn pace(def: Bankdef, at: Pos, node: Node) -> Paced
         return stood(at);
     }
     if adds_number(node) {
-        return added(
-            at,
-            node.number,
-            stays_known(at.known, node),
-            Skipped { bits: 0, units: 0 },
-        );
+        return added(at, node.number, stays_known(at.known, node), NO_SKIP);
     }
-    let align = def.align;
     pace_of_parts(
         def.unit,
         def.start,
-        align,
+        def.align,
         at,
         node.index,
         node.kind,
@@ -295,13 +259,12 @@ pub fn why_refused(fault: u8, node: u64) -> Refusal
 }
 
 // The position that a node sees, by its step.
-pub fn sight_of(p: Paced, node: u64) -> Moved
+pub fn sight_of(p: Paced, node: u64) -> Result<Pos, Refusal>
     ensures { result ≡ seen_by p node }
 {
-    let seen = p.seen;
     if p.fault == MADE {
-        Moved::To(seen)
+        Ok(p.seen)
     } else {
-        Moved::Refused(why_refused(p.fault, node))
+        Err(why_refused(p.fault, node))
     }
 }

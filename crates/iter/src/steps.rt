@@ -1,13 +1,10 @@
 // What the walk from node to node begins with, and the bank and the sums that it carries.
 ghost use Rattle.std.specs.Prelude.{◌≡◌};
-ghost use Rattle.iter.specs.Step.{start_of, bank_after, sum_after, lost_after};
+ghost use Rattle.iter.specs.Step.{start_of, bank_after, lost_after};
 
 use crate::{Lost, Pos, Skipped, Walk};
 use nodes::Node;
 use prelude::SWITCH;
-
-// A sum stops here: it is the largest number of 64 bits.
-const MAX_SUM: u64 = 18_446_744_073_709_551_615;
 
 // "Each bank's position starts at 0, known .. The walk begins in bank 0."
 pub fn start() -> Walk
@@ -30,30 +27,18 @@ pub fn bank_after(bank: u64, node: Node) -> u64
     ensures { result ≡ bank_after bank node }
 {
     if node.kind == SWITCH {
-        node.operand as u64
+        u64::from(node.operand)
     } else {
         bank
     }
 }
 
-// A sum with what one node more adds to it.
-fn sum_after(sum: u64, by: u32) -> u64
-    ensures { result ≡ sum_after sum by }
-{
-    let more = by as u64;
-    if sum <= MAX_SUM - more {
-        sum + more
-    } else {
-        MAX_SUM
-    }
-}
-
-// "the sum of bits lost", and that of whole units, with what one node more skips
+// "the sum of bits lost", and that of whole units, with what one node more skips. A sum stops at the largest number of 64 bits.
 pub fn lost_after(lost: Lost, skipped: Skipped) -> Lost
     ensures { result ≡ lost_after lost skipped }
 {
     Lost {
-        bits: sum_after(lost.bits, skipped.bits),
-        units: sum_after(lost.units, skipped.units),
+        bits: lost.bits.saturating_add(u64::from(skipped.bits)),
+        units: lost.units.saturating_add(u64::from(skipped.units)),
     }
 }

@@ -9,6 +9,7 @@ use iter::{Paced, Pos};
 use nodes::Node;
 
 // What an advance leaves behind: the record, and the step's numbers.
+// stays: specs/Lent.left_by is said of it
 #[derive(Clone, Copy)]
 struct Left {
     at: Pos,
@@ -20,8 +21,10 @@ fn advanced(def: Bankdef, at: Pos, node: Node) -> Left
     ensures { result ≡ left_by def at node }
 {
     let step = iter::pace(def, at, node);
-    let after = step.after;
-    Left { at: after, step }
+    Left {
+        at: step.after,
+        step,
+    }
 }
 
 // The thin advance over the lent record, by the step that every walk makes: it is updated in place, and a refused call leaves it as it was. Answers what the

@@ -10,8 +10,6 @@ ghost use Rattle.print_report.specs.Room.{report_room};
 ghost use Rattle.says.specs.Lines.{Shows};
 ghost use Rattle.says.specs.Report.{ReportSays};
 
-use prelude::Opt;
-use print_text::Written;
 use prog_asked::Asked;
 
 // Room for the longest file and a byte more, so that none is cut to a sound one.
@@ -28,18 +26,18 @@ pub struct Ran {
 }
 
 // The report of a file, put at the front of `text`: how many bytes it is. There is room, so that the text is never too short.
-pub fn put_file(file: &[u8], fill: u8, page: Opt, text: &mut [u8]) -> usize
+pub fn put_file(file: &[u8], fill: u8, page: Option<u32>, text: &mut [u8]) -> usize
     requires { report_room ≤ length text.old }
     ensures { Shows (ReportSays file.now fill page) result text.new }
 {
-    let Written::To(end) = print_report::report(file, fill, page, text) else {
+    let Some(end) = print_report::report(file, fill, page, text) else {
         return 0;
     };
     end
 }
 
 // The same, handed to standard output.
-fn write(rt: &impl Print, file: &[u8], fill: u8, page: Opt, text: &mut [u8]) -> usize
+fn write(rt: &impl Print, file: &[u8], fill: u8, page: Option<u32>, text: &mut [u8]) -> usize
     requires { report_room ≤ length text.old }
     ensures { Shows (ReportSays file.now fill page) result text.new }
 {
@@ -48,7 +46,13 @@ fn write(rt: &impl Print, file: &[u8], fill: u8, page: Opt, text: &mut [u8]) -> 
 }
 
 // Reads a file into the room lent for it and hands the report of these bytes to standard output.
-fn run(rt: &(impl Input + Print), fill: u8, page: Opt, file: &mut [u8], text: &mut [u8]) -> Ran
+fn run(
+    rt: &(impl Input + Print),
+    fill: u8,
+    page: Option<u32>,
+    file: &mut [u8],
+    text: &mut [u8],
+) -> Ran
     requires { report_room ≤ length text.old }
     ensures { Shows (ReportSays (take result.read file.new) fill page) result.shown text.new }
 {
@@ -58,7 +62,7 @@ fn run(rt: &(impl Input + Print), fill: u8, page: Opt, file: &mut [u8], text: &m
 }
 
 fn main(rt: HostRuntime) {
-    if let Asked::Layout { fill, page } = prog_asked::layout_asked(&rt) {
+    if let Some(Asked { fill, page }) = prog_asked::layout_asked(&rt) {
         let mut file = [0u8; FILE];
         let mut text = [0u8; TEXT];
         run(&rt, fill, page, &mut file, &mut text);

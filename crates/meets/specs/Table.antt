@@ -1,8 +1,6 @@
 -- What `bankdef::check` says of a table of records, by the sentences on banks. That the definition says it, and that it leaves one answer: Theorems/Banks.
-use Rattle.std.specs.Prelude.{◌≡◌, true, ◌⊎◌, ℕ, ◌<◌}
+use Rattle.std.specs.Prelude.{◌≡◌, true, ◌⊎◌, ℕ, ◌<◌, Option, Some}
 use Rattle.prelude.specs.Told.{Told, gives, refuses, Nothing, nothing}
-use Rattle.prelude.specs.declared.Opt.{Opt}
-use Rattle.prelude.specs.declared.Opt.TheVariants.{Some}
 use Rattle.prelude.specs.declared.Place.TheVariants.{One, Two}
 use Rattle.bankdef.specs.declared.Bankdef.{Bankdef}
 use Rattle.bankdef.specs.declared.Bankdefs.{Bankdefs}
@@ -10,7 +8,7 @@ use Rattle.says.specs.Banks.{Fault, Meet}
 use Rattle.says.specs.Words.{Tries, Is, First, FirstPair, At}
 
 -- a number of a record that is there
-abbrev pub Has : Opt → ℕ → Type 0
+abbrev pub Has : Option ℕ → ℕ → Type 0
 Has x m = x ≡ Some m
 
 module _ (t : Bankdefs) where

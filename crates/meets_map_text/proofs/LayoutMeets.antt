@@ -1,13 +1,10 @@
 -- What the map's program prints of a layout, by the definitions, says the sentences: it is the text of the outcome of `dk_map` (`map-meets`), in the profile
 -- where there is a page size, whatever the lists that are lent hold.
-use Rattle.std.specs.Prelude.{◌≡◌, refl, List, [], ◌∷◌, ◌++◌, ℕ, ◌≤◌, ◌<◌, min, replicate}
+use Rattle.std.specs.Prelude.{◌≡◌, refl, List, [], ◌∷◌, ◌++◌, ℕ, ◌≤◌, ◌<◌, min, replicate, Option, None, Some, Err}
 use Rattle.std.proofs.Math.Path.{sym}
 use Rattle.std.proofs.Common.{arith}
 use Rattle.prelude.specs.Theorems.Told.{number-some}
-use Rattle.prelude.specs.declared.Opt.{Opt}
-use Rattle.prelude.specs.declared.Opt.TheVariants.{None, Some}
-use Rattle.prelude.specs.declared.Verdict.{Verdict}
-use Rattle.prelude.specs.declared.Verdict.TheVariants.{Accepted, Refused}
+use Rattle.prelude.specs.Verdict.{Verdict, Accepted}
 use Rattle.iter.specs.Step.{no_lost}
 use Rattle.iter.specs.declared.Lost.{Lost}
 use Rattle.form_fields.specs.declared.Shape.{Shape}
@@ -61,7 +58,7 @@ module _ (g : Given) (typed : Typed g) (counted : (table g).len ≡ banks g) (sm
   comes_to = told_as g nothing typed (refusal g old) (λ (y : build.Outcome). refusal g old y.answer.refusal y.answer.place y.answer.second)
       (λ number place second. refl) (outcome_of g typed old places)
 
-  laid-meets : (page : Opt) → LaidSays g page old (comes_to (said_in page b))
+  laid-meets : (page : Option ℕ) → LaidSays g page old (comes_to (said_in page b))
   laid-meets None = map-says
   laid-meets (Some page) =
       verdict-says g nothing typed (refusal g old) (λ (y : build.Outcome). refusal g old y.answer.refusal y.answer.place y.answer.second)
@@ -78,7 +75,7 @@ module _ (g : Given) (typed : Typed g) (counted : (table g).len ≡ banks g) (sm
       → BankLines g lost (min (banks g) 16) banked → NodeLines g l c noded → FaultLine node faulted
       → Prints g f (record { answer = ToldBy v node n c lost; lent = l }) (file_line s n ++ banked ++ noded ++ faulted ++ verdict_text v)
   prints-told Accepted node n c lost l x y z = says.prints (file-line n) x y z (verdict-meets Accepted node n c lost)
-  prints-told (Refused why) node n c lost l x y z = says.prints (file-line n) x y z (verdict-meets (Refused why) node n c lost)
+  prints-told (Err why) node n c lost l x y z = says.prints (file-line n) x y z (verdict-meets (Err why) node n c lost)
 
   prints : (v : Verdict) → Prints g f (comes_to v) (layout_text s b (map_after v (map_of b)))
   unfolding nodes_text
@@ -86,9 +83,9 @@ module _ (g : Given) (typed : Typed g) (counted : (table g).len ≡ banks g) (sm
       let m = map_of b in
       prints-told m.verdict (node_told m.fault) m.passes m.nodes m.padding (outcome_of g typed old places).lent
       (all-banks-meet g counted small m.padding) (nodes-meet g typed old places m.nodes (omega arith)) (fault-meets g typed old places)
-  prints (Refused why) =
+  prints (Err why) =
       says.prints (file-line 0) (all-banks-meet g counted small (replicate 16 no_lost)) says.no-node (says.no-fault refl)
       (says.refused (number-some why) (numbers-meet why) (refused-meets why))
 
-  pub layout-meets : (page : Opt) → (y : Outcome) × LaidSays g page old y × Prints g f y (layout_text s b (map_in page b))
+  pub layout-meets : (page : Option ℕ) → (y : Outcome) × LaidSays g page old y × Prints g f y (layout_text s b (map_in page b))
   layout-meets page = (comes_to (said_in page b), laid-meets page, prints (said_in page b))

@@ -1,12 +1,11 @@
 -- What the map's program prints for a file, by the definitions, says the sentences: a broken file is its refusal's line; a sound one has the text of its
 -- layout.
-use Rattle.std.specs.Prelude.{◌≡◌, refl, List, [], ℕ, ◌≤◌, ◌<◌, length, get_or}
+use Rattle.std.specs.Prelude.{◌≡◌, refl, List, [], ℕ, ◌≤◌, ◌<◌, length, get_or, Option, Err, Ok, Result}
 use Rattle.std.proofs.Math.Path.{sym, subst}
 use Rattle.std.proofs.Common.{◌∙◌, arith}
-use Rattle.prelude.specs.declared.Opt.{Opt}
+use Rattle.form_fields.specs.declared.Shape.{Shape}
+use Rattle.prelude.specs.declared.Refusal.{Refusal}
 use Rattle.prelude.specs.declared.Refusal.TheVariants.{Malformed}
-use Rattle.form_fields.specs.declared.Form as declared
-use Rattle.form_fields.specs.declared.Form.TheVariants.{Sound as SoundForm, Broken as BrokenForm}
 use Rattle.form_fields.specs.Laws.Columns.{column-length}
 use Rattle.form_fields.specs.Shape.{shape_in, form_of}
 use Rattle.form_fields.specs.Whole.{Bytes, contents_in}
@@ -50,15 +49,15 @@ module _ (file : List ℕ) (small : Bytes file) (fill : ℕ) where
     shaped form-1 = record { form = refl; limit = refl; rows = refl; nodes = sym (column-length _ _ _ _) }
     shaped form-2 = record { form = refl; limit = refl; rows = refl; nodes = sym (column-length _ _ _ _) }
 
-  module _ (page : Opt) where
-    text-by : (x : declared.Form) → form_of file ≡ x → MapText file fill page (text_by file fill page x) → MapText file fill page (map_text file fill page)
+  module _ (page : Option ℕ) where
+    text-by : (x : Result Shape Refusal) → form_of file ≡ x → MapText file fill page (text_by file fill page x) → MapText file fill page (map_text file fill page)
     unfolding map_text
-    text-by x e t = subst (λ (y : declared.Form). MapText file fill page (text_by file fill page y)) (sym e) t
+    text-by x e t = subst (λ (y : Result Shape Refusal). MapText file fill page (text_by file fill page y)) (sym e) t
 
     by : FileSo file small fill → MapText file fill page (map_text file fill page)
-    by (so.broken {i = i} of x e) = text-by (BrokenForm (Malformed i)) e (says.broken of x (refused-meets (Malformed i)))
+    by (so.broken {i = i} of x e) = text-by (Err (Malformed i)) e (says.broken of x (refused-meets (Malformed i)))
     by (so.sound {f = f} {s = s} of x e shape same) =
-        text-by (SoundForm s) e
+        text-by (Ok s) e
         (says.laid of x (layout_is f file fill small) (λ old lends.
         subst (λ (b : Input). (y : Outcome) × LaidSays (given_by f file fill) page old y × Prints (given_by f file fill) f y (layout_text s b (map_in page b)))
         (sym same)

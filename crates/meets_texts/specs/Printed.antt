@@ -1,7 +1,8 @@
 -- What the programs print, by the definitions: the model that the sentences of their texts are held against.
-use Rattle.std.specs.Prelude.{Bool, List, [], ◌∷◌, ℕ, eqb, leb, length}
+use Rattle.std.specs.Prelude.{Bool, List, [], ◌∷◌, ℕ, eqb, leb, length, Result, Ok, Err}
 use Rattle.prelude.specs.Pick.{pick}
 use Rattle.prelude.specs.declared.Refusal.TheVariants.{Malformed}
+use Rattle.prelude.specs.declared.Refusal.{Refusal}
 use Rattle.form_fields.specs.Contents.{Contents, written}
 use Rattle.form_fields.specs.Kind.{form1, form2}
 use Rattle.form_fields.specs.Shape.{form_in}
@@ -9,8 +10,6 @@ use Rattle.form_fields.specs.Whole.{contents_in}
 use Rattle.form_fields.specs.declared.Kind.{Kind}
 use Rattle.form_rewrite.specs.Turning.{to_form1, to_form2, drops_bit}
 use Rattle.form_convert.specs.Convert.{answer_by, drops_none}
-use Rattle.form_convert.specs.declared.Conversion.{Conversion}
-use Rattle.form_convert.specs.declared.Conversion.TheVariants.{Converted, Refused}
 use Rattle.print_text.specs.Ascii.{ascii}
 use Rattle.print_text.specs.Lines.{line, refusal_text}
 use Rattle.print_rehex.specs.Rehex.{longest}
@@ -37,9 +36,9 @@ abbrev pub file_room : ℕ
 file_room = 65537
 
 -- The converted file as it is; "A refusal prints `refused`, number and place, one space between."
-abbrev pub printed : Conversion → List ℕ → List ℕ
-printed (Converted n) new = new
-printed (Refused why) new = refusal_text why
+abbrev pub printed : Result ℕ Refusal → List ℕ → List ℕ
+printed (Ok n) new = new
+printed (Err why) new = refusal_text why
 
 -- One of the two ways, in the room that the program lends.
 abbrev pub way_text : Kind → Kind → (Contents → Contents) → (Contents → Bool) → List ℕ → List ℕ

@@ -1,69 +1,45 @@
 -- Laws of the list check: each way through the code ends in what the definition says of the node.
-use Prim.Native.Nat.{ℕ, zero, suc, ◌+◌, ◌*◌, ◌/◌, ◌<◌, ◌≤◌}
+use Prim.Native.Nat.{ℕ, zero, suc, ◌+◌, ◌<◌}
 use mathlib.Core.Path.{◌≡◌, refl, sym, ◌∙◌}
-use mathlib.Core.Logic.{⊎_elim}
-use mathlib.Core.Bool.{Bool, true, false, ◌&&◌, ◌||◌}
+use Rattle.std.proofs.Math.Nat.{add-zero, zero-add}
+use mathlib.Core.Bool.{Bool, false, ◌&&◌, ◌||◌}
+use Rattle.std.proofs.Math.Bool.{or-false, or_assoc}
 use native.Mathlib.Omega.{arith}
-use native.Mathlib.Nat.{eq-or-lt_of_le, le_of_suc-le-suc, not-suc-le-zero}
-use native.Mathlib.Numerals.{add-one}
 use lib.ListN.{length, get_or}
+use Rattle.std.specs.List.{list_any, range_with_len}
 use lib.Dec.{ltb, leb, eqb}
-use Rattle.prelude.specs.declared.Refusal.TheVariants.{Malformed}
-use Rattle.prelude.specs.declared.Verdict.TheVariants.{Accepted, Refused}
 use Rattle.nodes.specs.declared.Node.{Node}
 use Rattle.nodes.specs.Kinds.{is_unknown, reads_state, is_item}
-use Rattle.nodes.specs.Lists.{Lists, node_of, past_end, row_fault, any_row_fault, node_fault, nodes_to}
-use borrow.Author.Tests.{lt-ltb, le-ltb, lt-leb, leb-false, eq-eqb, ne_eqb, ltb-true, ltb-false}
-
--- two tests that hold together are one
-same_test : (a b c d : ℕ) → (a < b → c < d) → (b ≤ a → d ≤ c) → ltb a b ≡ ltb c d
-same_test a b c d above below = go (ltb a b) refl
-  where
-    go : (t : Bool) → ltb a b ≡ t → ltb a b ≡ ltb c d
-    go true e = e ∙ sym (lt-ltb c d (above (ltb-true a b e)))
-    go false e = e ∙ sym (le-ltb c d (below (ltb-false a b e)))
-
--- bits past a number of whole bytes, told by whole bytes
-pub past-whole : (bytes : ℕ) {o n x y : ℕ} → x ≡ o → y ≡ n → ltb bytes ((x + y + 7) / 8) ≡ ltb (8 * bytes) (o + n)
-past-whole bytes {o} {n} p q = rw (p, q) (same_test bytes ((o + n + 7) / 8) (8 * bytes) (o + n) (λ h. omega arith) (λ h. omega arith))
+use Rattle.nodes.specs.Lists.{Lists, node_of, past_end, row_fault, any_row_fault, node_fault}
+use borrow.Author.Tests.{lt-ltb, lt-leb, leb-false, eq-eqb, ne_eqb}
 
 -- a row at fault, by whether the node is an item: the kind is looked at once for all rows
 pub read-fault : (bytes : ℕ) (node : Node) {item : Bool} → 2 < node.kind → is_item node.kind ≡ item
     → ltb 2 node.state || (item && past_end bytes node) ≡ row_fault bytes node
 read-fault bytes node h e = rw (lt-ltb 2 node.kind, e)
 
-or-false : (t : Bool) → t ≡ t || false
-or-false true = refl
-or-false false = refl
-
-or-true : (t : Bool) → true ≡ t || true
-or-true true = refl
-or-true false = refl
+-- one number more of a range that is tried
+any-more : (test : ℕ → Bool) (a n : ℕ) → list_any test (range_with_len a (suc n)) ≡ list_any test (range_with_len a n) || test (a + n)
+any-more test a zero = rw (add-zero a) (or-false (test a))
+any-more test a (suc n) =
+    let e : a + 1 + n ≡ a + suc n = omega arith in
+    rw (any-more test (a + 1) n, e) (sym (or_assoc (test a) (list_any test (range_with_len (a + 1) n)) (test (a + suc n))))
 
 module _ (l : Lists) (i : ℕ) where
   -- node i as row r shows it
   abbrev shown : ℕ → Node
   shown r = node_of l.kinds l.operands l.numbers l.states r i
 
-  -- a row that was read, at the flag that the code has of it
-  pub row_read : (r : ℕ) {item t : Bool} {node : Node} → (2 < get_or l.kinds i 0) × (is_item (get_or l.kinds i 0) ≡ item) → node ≡ shown r
-      → t ≡ ltb 2 node.state || (item && past_end (length l.values) node) → t ≡ row_fault (length l.values) (shown r)
-  row_read r k e f = f ∙ (rw e (read-fault (length l.values) (shown r) k.0 k.1))
+  -- what the code asks of a row, at the flag that it has of the node
+  abbrev pub asked : Bool → ℕ → Bool
+  asked item r = ltb 2 (shown r).state || (item && past_end (length l.values) (shown r))
 
-  pub no_row : false ≡ any_row_fault l i 0
+  pub rows-asked : (item : Bool) → (2 < get_or l.kinds i 0) × (is_item (get_or l.kinds i 0) ≡ item) → (n : ℕ)
+      → list_any (asked item) (range_with_len 0 n) ≡ any_row_fault l i n
   unfolding any_row_fault
-  no_row = refl
-
-  pub next_row : (r : ℕ) → false ≡ any_row_fault l i r → false ≡ row_fault (length l.values) (shown r) → false ≡ any_row_fault l i (r + 1)
-  unfolding any_row_fault
-  next_row r e f = rw (add-one, ← e, ← f)
-
-  pub row-found : (rows r : ℕ) → r < rows → true ≡ row_fault (length l.values) (shown r) → true ≡ any_row_fault l i rows
-  unfolding any_row_fault
-  row-found zero r h f = absurd (not-suc-le-zero h)
-  row-found (suc rows) r h f =
-      ⊎_elim (λ (e : r ≡ rows). rw (← e, ← f) (or-true (any_row_fault l i r))) (λ (g : r < rows). rw (← (row-found rows r g f)) refl)
-      (eq-or-lt_of_le (le_of_suc-le-suc h))
+  rows-asked item k zero = refl
+  rows-asked item k (suc n) =
+      rw (any-more (asked item) 0 n, rows-asked item k n, zero-add n, read-fault (length l.values) (shown n) k.0 k.1)
 
 -- what can be wrong at a node, by what its kind is
 module _ (banks : ℕ) (l : Lists) (i : ℕ) {kind : ℕ} (k : kind ≡ get_or l.kinds i 0) where
@@ -78,9 +54,6 @@ module _ (banks : ℕ) (l : Lists) (i : ℕ) {kind : ℕ} (k : kind ≡ get_or l
   unread-rows zero e = refl
   unread-rows (suc r) e = rw (unread-rows r e, unread-row r e)
 
-  pub kind-fault : is_unknown kind ≡ true → true ≡ node_fault banks l i
-  kind-fault e = let f : is_unknown (get_or l.kinds i 0) ≡ true = rw k at e in rw f
-
   module _ (u : is_unknown kind ≡ false) where
     known : is_unknown (get_or l.kinds i 0) ≡ false
     known = rw k at u
@@ -89,7 +62,7 @@ module _ (banks : ℕ) (l : Lists) (i : ℕ) {kind : ℕ} (k : kind ≡ get_or l
     switch-fault e o w =
         let f : get_or l.kinds i 0 ≡ 1 = omega arith in
         let s : reads_state (get_or l.kinds i 0) ≡ false = rw f in
-        rw (w, o, known, eq-eqb (get_or l.kinds i 0) 1 f, unread-rows l.rows s) (or-false _)
+        rw (w, o, known, eq-eqb (get_or l.kinds i 0) 1 f, unread-rows l.rows s) (sym (or-false _))
 
     module _ (n : kind ≡ 1 → ⊥) where
       no_switch : eqb (get_or l.kinds i 0) 1 ≡ false
@@ -97,24 +70,3 @@ module _ (banks : ℕ) (l : Lists) (i : ℕ) {kind : ℕ} (k : kind ≡ get_or l
 
       pub no-fault : reads_state kind ≡ false → false ≡ node_fault banks l i
       no-fault e = let f : reads_state (get_or l.kinds i 0) ≡ false = rw k at e in rw (known, no_switch, unread-rows l.rows f)
-
-      pub rows-fault : {t : Bool} → t ≡ any_row_fault l i l.rows → t ≡ node_fault banks l i
-      rows-fault e = rw (known, no_switch) e
-
--- the verdict on the nodes, one after the other
-module _ (banks : ℕ) (l : Lists) where
-  pub no-node : Accepted ≡ nodes_to banks l 0
-  unfolding nodes_to
-  no-node = refl
-
-  pub next-node : (i : ℕ) → Accepted ≡ nodes_to banks l i → {t : Bool} → t ≡ node_fault banks l i → t ≡ false → Accepted ≡ nodes_to banks l (i + 1)
-  unfolding nodes_to
-  next-node i e f n = rw (add-one, ← e, sym f ∙ n)
-
-  pub node-found : (n i : ℕ) → i < n → Accepted ≡ nodes_to banks l i → {t : Bool} → t ≡ node_fault banks l i → t ≡ true
-      → Refused (Malformed i) ≡ nodes_to banks l n
-  unfolding nodes_to
-  node-found zero i h e f y = absurd (not-suc-le-zero h)
-  node-found (suc n) i h e f y =
-      ⊎_elim (λ (q : i ≡ n). rw (← q, ← e, sym f ∙ y)) (λ (g : i < n). rw (← (node-found n i g e f y)) refl)
-      (eq-or-lt_of_le (le_of_suc-le-suc h))

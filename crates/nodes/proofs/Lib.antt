@@ -1,3 +1,2 @@
 pub mod Faults
-pub mod Nodes
 pub mod Unique

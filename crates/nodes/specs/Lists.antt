@@ -1,10 +1,9 @@
 -- The lists that a layout is given by, a node as a row shows it, and the list check (document 01, "The walk" and refusal 4).
-use Rattle.std.specs.Prelude.{ℕ, zero, suc, ◌+◌, ◌*◌, ◌≤◌, ◌≡◌, Bool, false, ◌&&◌, ◌||◌, List, eqb, leb, ltb, get_or, length, take, drop}
+use Rattle.std.specs.Prelude.{ℕ, zero, suc, ◌+◌, ◌*◌, ◌≤◌, ◌≡◌, Bool, false, ◌&&◌, ◌||◌, List, eqb, leb, ltb, get_or, length, take, drop, Err}
 use Rattle.prelude.specs.Limits.{max_nodes, max_rows}
 use Rattle.prelude.specs.Pick.{pick}
 use Rattle.prelude.specs.declared.Refusal.TheVariants.{Malformed}
-use Rattle.prelude.specs.declared.Verdict.{Verdict}
-use Rattle.prelude.specs.declared.Verdict.TheVariants.{Accepted, Refused}
+use Rattle.prelude.specs.Verdict.{Verdict, Accepted}
 use Rattle.nodes.specs.declared.Node.{Node}
 use Rattle.nodes.specs.Kinds.{is_unknown, is_switch, is_item, is_declared, reads_state}
 
@@ -85,12 +84,12 @@ node_fault banks l i =
 -- the earlier of two verdicts that refuses
 abbrev pub first_of : Verdict → Verdict → Verdict
 first_of Accepted later = later
-first_of (Refused why) later = Refused why
+first_of (Err why) later = Err why
 
 -- "then the lowest node": the verdict on the first i nodes
 unfoldable pub nodes_to : ℕ → Lists → ℕ → Verdict
 nodes_to banks l zero = Accepted
-nodes_to banks l (suc i) = first_of (nodes_to banks l i) (pick (node_fault banks l i) (Refused (Malformed i)) Accepted)
+nodes_to banks l (suc i) = first_of (nodes_to banks l i) (pick (node_fault banks l i) (Err (Malformed i)) Accepted)
 
 -- "node count": no more nodes than the limit, and an operand for each
 abbrev pub node_count_sound : Lists → Bool
@@ -112,8 +111,8 @@ known_fill fill = leb fill 1
 unfoldable pub lists_of : ℕ → Lists → ℕ → Verdict
 lists_of banks l fill =
     pick (node_count_sound l)
-    (pick (row_count_sound l) (pick (known_fill fill) (nodes_to banks l (length l.kinds)) (Refused (Malformed 3))) (Refused (Malformed 1)))
-    (Refused (Malformed 0))
+    (pick (row_count_sound l) (pick (known_fill fill) (nodes_to banks l (length l.kinds)) (Err (Malformed 3))) (Err (Malformed 1)))
+    (Err (Malformed 0))
 
 -- Rows whose lengths agree with the counts: what the list check has shown before it looks at a node.
 pub record Rows (n rows : ℕ) (numbers states : List ℕ) : Type 0 where

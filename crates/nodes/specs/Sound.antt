@@ -1,10 +1,9 @@
 -- What the list check tells: accepted, no node is at fault in any row; refused at a node, that node is the lowest at fault.
 use Rattle.std.specs.Prelude.{ℕ, ◌<◌, ◌≤◌, ◌≡◌, true, false, length}
 use Rattle.prelude.specs.Limits.{max_nodes}
-use Rattle.prelude.specs.declared.Verdict.{Verdict}
-use Rattle.prelude.specs.declared.Verdict.TheVariants.{Accepted}
 use Rattle.prelude.specs.Told.{gives, refuses, nothing, told_verdict}
 use Rattle.prelude.specs.declared.Place.TheVariants.{One}
+use Rattle.prelude.specs.Verdict.{Verdict, Accepted}
 use Rattle.nodes.specs.Lists.{Lists, Rows, node_count_sound, row_count_sound}
 use Rattle.nodes.specs.Lists.{node_fault, nodes_to}
 

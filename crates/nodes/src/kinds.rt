@@ -53,42 +53,29 @@ pub fn reads_state(kind: u8) -> bool
 pub fn is_written(kind: u8) -> bool
     ensures { result ≡ is_item kind }
 {
-    INSTRUCTION <= kind && kind <= OPEN_DATA
+    matches!(kind, INSTRUCTION..=OPEN_DATA)
 }
 
 // "Spans are labels (size 0) and written items"
 pub fn is_span(kind: u8) -> bool
     ensures { result ≡ is_span_kind kind }
 {
-    if kind == LABEL {
-        return true;
-    }
-    is_written(kind)
+    kind == LABEL || is_written(kind)
 }
 
 // "labels (size 0), written items (4, 5, 6) and reserves"
 pub fn is_placed(kind: u8) -> bool
     ensures { result ≡ is_placed_kind kind }
 {
-    if kind == LABEL {
-        return true;
-    }
-    if is_written(kind) {
-        return true;
-    }
-    kind == RESERVE
+    kind == LABEL || is_written(kind) || kind == RESERVE
 }
 
 // The bits of a written item or a reserve; any other node has none: "labels (size 0)".
 pub fn size_of(node: Node) -> u32
     ensures { result ≡ size_of node }
 {
-    let kind = node.kind;
-    if kind < INSTRUCTION {
-        return 0;
+    match node.kind {
+        INSTRUCTION..=RESERVE => node.number,
+        _ => 0,
     }
-    if RESERVE < kind {
-        return 0;
-    }
-    node.number
 }

@@ -6,10 +6,12 @@ mod kinds;
 ghost use Rattle.std.specs.Prelude.{◌≡◌, ◌&&◌, ◌||◌, ◌<◌, ltb, get_or, length};
 ghost use Rattle.nodes.specs.Sound.{ListFigures};
 ghost use Rattle.nodes.specs.Kinds.{is_item};
-ghost use Rattle.nodes.specs.Lists.{lists, row_with, node_at, node_of, past_end, any_row_fault, node_fault, nodes_to, lists_of, Rows};
+ghost use Rattle.nodes.specs.Lists.{Lists, lists, row_with, node_at, past_end, any_row_fault, node_fault, nodes_to, lists_of, Rows};
+ghost use Rattle.nodes.specs.FaultExactly.{shown_in};
 
 pub use kinds::{Doing, does, is_placed, is_span, is_unknown, is_written, reads_state, size_of};
-use prelude::{DATA, MAX_NODES, MAX_ROWS, Refusal, SWITCH, Verdict};
+use prelude::{DATA, MAX_NODES, MAX_ROWS, Refusal, SWITCH, UNRESOLVED};
+use std::marker::Model;
 
 // A node as a row shows it: its number in the list, kind, operand, and the row's number and state for it.
 #[derive(Clone, Copy)]
@@ -19,18 +21,6 @@ pub struct Node {
     pub operand: u32,
     pub number: u32,
     pub state: u8,
-}
-
-fn byte_at(s: &[u8], i: usize) -> u8
-    ensures { result ≡ get_or s.now i 0 }
-{
-    if i < s.len() { s[i] } else { 0 }
-}
-
-fn number_at(s: &[u32], i: usize) -> u32
-    ensures { result ≡ get_or s.now i 0 }
-{
-    if i < s.len() { s[i] } else { 0 }
 }
 
 // Node `i` as a row shows it. `first` is the first row's numbers, `numbers` and `states` are the row. Past a list's end stands 0.
@@ -46,173 +36,110 @@ pub fn node_at(
         (row_with numbers.now states.now)
         i }
 {
-    let kind = byte_at(kinds, i);
-    let operand = number_at(operands, i);
-    let state = byte_at(states, i);
-    if kind == DATA {
-        return Node {
-            index: i as u64,
-            kind,
-            operand,
-            number: number_at(first, i),
-            state,
-        };
-    }
+    let kind = kinds.get(i).copied().unwrap_or(0);
+    let numbered = if kind == DATA { first } else { numbers };
     Node {
         index: i as u64,
         kind,
-        operand,
-        number: number_at(numbers, i),
-        state,
+        operand: operands.get(i).copied().unwrap_or(0),
+        number: numbered.get(i).copied().unwrap_or(0),
+        state: states.get(i).copied().unwrap_or(0),
     }
-}
-
-fn wide(x: u32) -> u64
-    ensures { result ≡ x }
-{
-    x as u64
 }
 
 // Whether the bits of an item pass the end of `bytes` value bytes: whole bytes are compared, so that no product can wrap.
 fn past_end(bytes: usize, node: Node) -> bool
     ensures { result ≡ past_end bytes node }
 {
-    let end = wide(node.operand) + wide(node.number);
-    (bytes as u64) < (end + 7) / 8
+    let end = u64::from(node.operand) + u64::from(node.number);
+    (bytes as u64) < end.div_ceil(8)
 }
 
 // What a row can have wrong at a node whose state is read: the state, and the value range where it is an item's.
 fn row_fault(item: bool, bytes: usize, node: Node) -> bool
     ensures { result ≡ ltb 2 node.state || (item && past_end bytes node) }
 {
-    let state = node.state;
-    if 2 < state {
-        return true;
-    }
-    if item {
-        return past_end(bytes, node);
-    }
-    false
+    UNRESOLVED < node.state || (item && past_end(bytes, node))
 }
 
-// Node `i` as row `r` of the lent lists shows it.
-fn row_node(
-    kinds: &[u8],
-    operands: &[u32],
-    numbers: &[u32],
-    states: &[u8],
+// The lent lists, whose rows are whole: what the list check has shown of them before it looks at a node.
+#[derive(Drop)]
+struct Lent<'a> {
+    kinds: &'a [u8],
+    operands: &'a [u32],
+    numbers: &'a [u32],
+    states: &'a [u8],
     rows: u64,
-    r: u64,
-    i: usize,
-) -> Node
-    requires rows { Rows (length kinds.now) rows numbers.now states.now }
-    requires r_lt_rows { r < rows }
-    ensures { result ≡ node_of kinds.now operands.now numbers.now states.now r i }
-{
-    let n = kinds.len();
-    let a = (r as usize) * n;
-    let e = a + n;
-    node_at(
-        kinds,
-        operands,
-        &numbers[0..n],
-        &numbers[a..e],
-        &states[a..e],
-        i,
-    )
+    values: &'a [u8],
 }
 
-// Whether some row is at fault at node `i`, whose state is read; `item` says that its value range is too.
-fn any_row_fault(
-    item: bool,
-    kinds: &[u8],
-    operands: &[u32],
-    numbers: &[u32],
-    states: &[u8],
-    rows: u64,
-    values: &[u8],
-    i: usize,
-) -> bool
-    requires rows { Rows (length kinds.now) rows numbers.now states.now }
-    requires bound { (2 < get_or kinds.now i 0) × (is_item (get_or kinds.now i 0) ≡ item) }
-    ensures { result ≡ any_row_fault
-        (lists kinds.now operands.now numbers.now states.now rows values.now)
-        i rows }
-{
-    for r in 0..rows {
-        let node = row_node(kinds, operands, numbers, states, rows, r, i);
-        if row_fault(item, values.len(), node) {
+impl<'a> Model for Lent<'a> {
+    ghost Value = { Lists };
+
+    ghost view = { λ l. lists l.kinds.now l.operands.now l.numbers.now l.states.now l.rows l.values.now };
+
+    ghost invariant = { λ l. Rows (length l.kinds.now) l.rows l.numbers.now l.states.now };
+}
+
+impl<'a> Lent<'a> {
+    // Node `i` as row `r` shows it.
+    fn node(&self, r: u64, i: usize) -> Node
+        requires { r < self.now.rows }
+        ensures { result ≡ shown_in self.now r i }
+    {
+        let n = self.kinds.len();
+        let a = (r as usize) * n;
+        let e = a + n;
+        node_at(
+            self.kinds,
+            self.operands,
+            &self.numbers[0..n],
+            &self.numbers[a..e],
+            &self.states[a..e],
+            i,
+        )
+    }
+
+    // Whether some row is at fault at node `i`, whose state is read; `item` says that its value range is too.
+    fn any_row_fault(&self, item: bool, i: usize) -> bool
+        requires { (2 < get_or self.now.kinds i 0) × (is_item (get_or self.now.kinds i 0) ≡ item) }
+        ensures { result ≡ any_row_fault self.now i self.now.rows }
+    {
+        (0..self.rows).any(|r| row_fault(item, self.values.len(), self.node(r, i)))
+    }
+
+    // What can be wrong at node `i`. "Any other kind number is refused"; a bank switch names a bank; a state is read, and a value range where it is an item's.
+    fn node_fault(&self, banks: u64, i: usize) -> bool
+        ensures { result ≡ node_fault banks self.now i }
+    {
+        let kind = self.kinds.get(i).copied().unwrap_or(0);
+        if is_unknown(kind) {
             return true;
         }
+        if kind == SWITCH {
+            return banks <= u64::from(self.operands.get(i).copied().unwrap_or(0));
+        }
+        if !reads_state(kind) {
+            return false;
+        }
+        self.any_row_fault(is_written(kind), i)
     }
-    false
-}
 
-// What can be wrong at node `i`. "Any other kind number is refused"; a bank switch names a bank; a state is read, and a value range where it is an item's.
-fn node_fault(
-    banks: u64,
-    kinds: &[u8],
-    operands: &[u32],
-    numbers: &[u32],
-    states: &[u8],
-    rows: u64,
-    values: &[u8],
-    i: usize,
-) -> bool
-    requires { Rows (length kinds.now) rows numbers.now states.now }
-    ensures { result ≡ node_fault banks
-        (lists kinds.now operands.now numbers.now states.now rows values.now)
-        i }
-{
-    let kind = byte_at(kinds, i);
-    if is_unknown(kind) {
-        return true;
-    }
-    if kind == SWITCH {
-        return banks <= wide(number_at(operands, i));
-    }
-    if !reads_state(kind) {
-        return false;
-    }
-    any_row_fault(
-        is_written(kind),
-        kinds,
-        operands,
-        numbers,
-        states,
-        rows,
-        values,
-        i,
-    )
-}
-
-fn malformed(place: u64) -> Verdict
-    ensures { result ≡ Verdict.Refused (Refusal.Malformed place) }
-{
-    Verdict::Refused(Refusal::Malformed(place))
-}
-
-// The lowest node that is at fault.
-fn check_nodes(
-    banks: u64,
-    kinds: &[u8],
-    operands: &[u32],
-    numbers: &[u32],
-    states: &[u8],
-    rows: u64,
-    values: &[u8],
-) -> Verdict
-    requires { Rows (length kinds.now) rows numbers.now states.now }
-    ensures { result ≡ nodes_to banks
-        (lists kinds.now operands.now numbers.now states.now rows values.now)
-        (length kinds.now) }
-{
-    for i in 0..kinds.len() {
-        if node_fault(banks, kinds, operands, numbers, states, rows, values, i) {
-            return malformed(i as u64);
+    // The lowest node that is at fault.
+    fn check_nodes(&self, banks: u64) -> Result<(), Refusal>
+        ensures { result ≡ nodes_to banks self.now (length self.now.kinds) }
+    {
+        match (0..self.kinds.len()).find(|&i| self.node_fault(banks, i)) {
+            Some(i) => malformed(i as u64),
+            None => Ok(()),
         }
     }
-    Verdict::Accepted
+}
+
+fn malformed(place: u64) -> Result<(), Refusal>
+    ensures { result ≡ Err (Refusal.Malformed place) }
+{
+    Err(Refusal::Malformed(place))
 }
 
 // The list check: the counts, with the lengths of the lists that they stand for, the choice of the fill, then each node. The limit is a
@@ -226,7 +153,7 @@ pub fn check_lists(
     rows: u64,
     values: &[u8],
     fill: u8,
-) -> Verdict
+) -> Result<(), Refusal>
     ensures value { result ≡ lists_of banks
         (lists kinds.now operands.now numbers.now states.now rows values.now)
         fill }
@@ -257,5 +184,13 @@ pub fn check_lists(
     if 1 < fill {
         return malformed(3);
     }
-    check_nodes(banks, kinds, operands, numbers, states, rows, values)
+    let lent = Lent {
+        kinds,
+        operands,
+        numbers,
+        states,
+        rows,
+        values,
+    };
+    lent.check_nodes(banks)
 }

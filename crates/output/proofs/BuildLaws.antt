@@ -1,4 +1,5 @@
 -- The build's answer by what the first walk found, one law for each return.
+use Rattle.std.specs.Prelude.{Err, Result}
 use mathlib.Core.Path.{◌≡◌, refl, sym, ap, subst, ◌∙◌}
 use mathlib.Core.Logic.{⊎_elim}
 use mathlib.Core.Bool.{Bool, true, false}
@@ -15,8 +16,7 @@ use Rattle.prelude.specs.Pick.{pick}
 use Rattle.prelude.specs.Laws.Pick.{pick-false}
 use Rattle.prelude.specs.declared.Refusal.{Refusal}
 use Rattle.prelude.specs.declared.Refusal.TheVariants.{TooShort}
-use Rattle.prelude.specs.declared.Verdict.{Verdict}
-use Rattle.prelude.specs.declared.Verdict.TheVariants.{Accepted, Refused as TurnedAway}
+use Rattle.prelude.specs.Verdict.{Accepted, Verdict}
 use Rattle.bankdef.specs.Check.{banks_of}
 use Rattle.iter.specs.declared.Lost.{Lost}
 use Rattle.nodes.specs.Lists.{Row}
@@ -33,9 +33,9 @@ use Rattle.build_plan.specs.Laws.Plan.{Planned, verdict_placed}
 use Rattle.output.specs.Steps.{InValues, room_verdict, RowBuilt}
 use Rattle.build_write.specs.Writes.{HasRoom}
 use Rattle.build_plan.specs.declared.Plan.{Plan}
-use Rattle.output.specs.declared.Build.{Build}
 use Rattle.output.specs.declared.Output.{Output}
-use Rattle.output.specs.declared.Build.TheVariants.{Done, Refused}
+use Rattle.output.specs.declared.Built.{Built}
+use Rattle.output.specs.Built.{done_with}
 
 -- ---- room
 
@@ -56,7 +56,7 @@ row_ends last rows n some low =
 
 -- ---- the answer
 
-stopped_by : (q : Placed) (why : Refusal) → verdict_placed q ≡ TurnedAway why → q ≡ stops why
+stopped_by : (q : Placed) (why : Refusal) → verdict_placed q ≡ Err why → q ≡ stops why
 stopped_by (holds l) why e = unlike cc
 stopped_by (stops other) why e = cc
 
@@ -67,20 +67,20 @@ built-by room k bits spans (stops why) e = unlike cc
 -- ---- room, by the verdict on it
 
 module _ (t u : Bool) where
-  short-by : (done : Build) (why : Refusal) → pick t (TurnedAway (TooShort 0)) (pick u (TurnedAway (TooShort 1)) Accepted) ≡ TurnedAway why
-      → pick t (Refused (TooShort 0)) (pick u (Refused (TooShort 1)) done) ≡ Refused why
+  short-by : (done : Result Built Refusal) (why : Refusal) → pick t (Err (TooShort 0)) (pick u (Err (TooShort 1)) Accepted) ≡ Err why
+      → pick t (Err (TooShort 0)) (pick u (Err (TooShort 1)) done) ≡ Err why
   short-by = tests t u
     where
-      tests : (a b : Bool) (done : Build) (why : Refusal) → pick a (TurnedAway (TooShort 0)) (pick b (TurnedAway (TooShort 1)) Accepted) ≡ TurnedAway why
-          → pick a (Refused (TooShort 0)) (pick b (Refused (TooShort 1)) done) ≡ Refused why
+      tests : (a b : Bool) (done : Result Built Refusal) (why : Refusal) → pick a (Err (TooShort 0)) (pick b (Err (TooShort 1)) Accepted) ≡ Err why
+          → pick a (Err (TooShort 0)) (pick b (Err (TooShort 1)) done) ≡ Err why
       tests true b done why e = cc
       tests false true done why e = cc
       tests false false done why e = unlike cc
 
-  roomy-by : pick t (TurnedAway (TooShort 0)) (pick u (TurnedAway (TooShort 1)) Accepted) ≡ Accepted → (t ≡ false) × (u ≡ false)
+  roomy-by : pick t (Err (TooShort 0)) (pick u (Err (TooShort 1)) Accepted) ≡ Accepted → (t ≡ false) × (u ≡ false)
   roomy-by = tests t u
     where
-      tests : (a b : Bool) → pick a (TurnedAway (TooShort 0)) (pick b (TurnedAway (TooShort 1)) Accepted) ≡ Accepted → (a ≡ false) × (b ≡ false)
+      tests : (a b : Bool) → pick a (Err (TooShort 0)) (pick b (Err (TooShort 1)) Accepted) ≡ Accepted → (a ≡ false) × (b ≡ false)
       tests true b e = unlike cc
       tests false true e = unlike cc
       tests false false e = (refl, refl)
@@ -88,7 +88,7 @@ module _ (t u : Bool) where
 module _ (p : Program) (row : Row) (closed : Bool) (fill k passes : ℕ) (values : List ℕ) (old : Lent) (plan : Plan)
     (planned : Planned p row closed fill plan) where
   -- a build that changes nothing
-  kept : (why : Refusal) → Refused why ≡ build_row closed (visits p row) fill (room_of old) k → (x : Output) → x ≡ refused_after passes why
+  kept : (why : Refusal) → Err why ≡ build_row closed (visits p row) fill (room_of old) k → (x : Output) → x ≡ refused_after passes why
       → RowBuilt p row closed fill k passes values old x old
   kept why e x is =
       record {
@@ -96,7 +96,7 @@ module _ (p : Program) (row : Row) (closed : Bool) (fill k passes : ℕ) (values
         left = ap (λ (o : Output). left_by p.banks (visits p row) values old o.build) (sym is);
       }
 
-  pub row-stopped : (why : Refusal) → plan.verdict ≡ TurnedAway why → (x : Output) → x ≡ refused_after passes why
+  pub row-stopped : (why : Refusal) → plan.verdict ≡ Err why → (x : Output) → x ≡ refused_after passes why
       → RowBuilt p row closed fill k passes values old x old
   row-stopped why e =
       kept why
@@ -113,12 +113,12 @@ module _ (p : Program) (row : Row) (closed : Bool) (fill k passes : ℕ) (values
 
     module _ {v : Verdict} (told : v ≡ room_verdict (length old.image) (room_of old).spans plan.length plan.spans) where
       -- there is no room
-      pub row-short : (why : Refusal) → v ≡ TurnedAway why → (x : Output) → x ≡ refused_after passes why
+      pub row-short : (why : Refusal) → v ≡ Err why → (x : Output) → x ≡ refused_after passes why
           → RowBuilt p row closed fill k passes values old x old
       row-short why e =
           kept why
           (sym (answers
-          ∙ short-by (ltb (8 * length old.image) plan.length) (ltb (room_of old).spans plan.spans) (Done k plan.length plan.spans) why
+          ∙ short-by (ltb (8 * length old.image) plan.length) (ltb (room_of old).spans plan.spans) (done_with k plan.length plan.spans) why
           (sym told ∙ e)))
 
       module _ (fits : v ≡ Accepted) where
@@ -149,11 +149,11 @@ module _ (p : Program) (row : Row) (closed : Bool) (fill k passes : ℕ) (values
             → offsets' ≡ over (words (spans_of (visits p row))) old.offsets
             → sized' ≡ over (sizes (spans_of (visits p row))) old.sizes
             → RowBuilt p row closed fill k passes values old
-            (record { build = Done k plan.length plan.spans; passes = passes; padding = plan.padding }) (lent image' addressed' offsets' sized')
+            (record { build = done_with k plan.length plan.spans; passes = passes; padding = plan.padding }) (lent image' addressed' offsets' sized')
         row_done image' addressed' offsets' sized' a b c d =
             record {
               answer =
-                  ap (λ (l : List Lost). record { build = Done k plan.length plan.spans; passes = passes; padding = l }) (planned.padding accepted)
+                  ap (λ (l : List Lost). record { build = done_with k plan.length plan.spans; passes = passes; padding = l }) (planned.padding accepted)
                   ∙ ap (output_of p row passes) (sym (answers ∙ pick-false _ _ tests.0 ∙ pick-false _ _ tests.1));
               left = rw (a, b, c, d);
             }

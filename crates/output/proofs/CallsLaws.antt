@@ -1,17 +1,15 @@
 -- Laws that Theorems/Calls rests on.
-use Rattle.std.specs.Prelude.{◌≡◌, Bool, true, false, List, ℕ, ◌*◌, ◌≤◌, ltb, length}
+use Rattle.std.specs.Prelude.{◌≡◌, Bool, true, false, List, ℕ, ◌*◌, ◌≤◌, ltb, length, Result, Err, Ok}
 use Rattle.std.proofs.Math.Path.{refl, ap, subst}
 use Rattle.std.proofs.Common.{sym, ◌∙◌, ltb-false}
+use Rattle.prelude.specs.Verdict.{Accepted as Yes}
 use Rattle.prelude.specs.Laws.Bools.{unlike}
 use Rattle.prelude.specs.Pick.{pick}
 use Rattle.prelude.specs.declared.Refusal.{Refusal}
 use Rattle.prelude.specs.declared.Refusal.TheVariants.{TooShort}
-use Rattle.prelude.specs.declared.Verdict.TheVariants.{Accepted as Yes}
 use Rattle.bankdef.specs.Check.{check_of}
 use Rattle.resolver.proofs.LastPass.{accepted-checked}
 use Rattle.resolver.specs.Passes.{row_of_pass}
-use Rattle.resolver.specs.declared.Settled.{Settled}
-use Rattle.resolver.specs.declared.Settled.TheVariants.{At, Refused as Unsettled}
 use Rattle.build_visits.specs.Items.{items_of, length_of}
 use Rattle.build_plan.specs.Placing.{Placed, holds, stops, placed_all}
 use Rattle.build_visits.specs.Spans.{spans_of}
@@ -19,33 +17,33 @@ use Rattle.output.specs.Output.{Input, closed_of, Room, room_of, room_for, place
 use Rattle.build_plan.specs.Plan.{paddings_of}
 use Rattle.output.specs.Output.{padding_by, visits_of, fill_of, settled_of}
 use Rattle.build_visits.specs.declared.Visit.{Visit}
-use Rattle.output.specs.declared.Build.{Build}
-use Rattle.output.specs.declared.Build.TheVariants.{Done, Refused}
 use Rattle.output.specs.declared.Output.{Output}
 use Rattle.output.specs.Laws.Calls.{passes-are}
 use Rattle.output.specs.Calls.{Accepted, Call, Fine, program_in, row_in}
+use Rattle.output.specs.declared.Built.{Built}
+use Rattle.output.specs.Built.{done_with, length_done, spans_done}
 
 -- ---- what the contract says of it
 
-pub refused-done : {why : Refusal} {k bits spans : ℕ} → Refused why ≡ Done k bits spans → ⊥
+pub refused-done : {why : Refusal} {k bits spans : ℕ} → Err why ≡ done_with k bits spans → ⊥
 refused-done e = unlike cc
 
-room-done : (room : Room) (k bits spans k' bits' spans' : ℕ) → room_for room k bits spans ≡ Done k' bits' spans'
+room-done : (room : Room) (k bits spans k' bits' spans' : ℕ) → room_for room k bits spans ≡ done_with k' bits' spans'
     → (bits' ≡ bits) × (spans' ≡ spans) × (bits ≤ 8 * room.image) × (spans ≤ room.spans)
 room-done room k bits spans k' bits' spans' e = go (ltb (8 * room.image) bits) (ltb room.spans spans) refl refl e
   where
     go : (a b : Bool) → ltb (8 * room.image) bits ≡ a → ltb room.spans spans ≡ b
-        → pick a (Refused (TooShort 0)) (pick b (Refused (TooShort 1)) (Done k bits spans)) ≡ Done k' bits' spans'
+        → pick a (Err (TooShort 0)) (pick b (Err (TooShort 1)) (done_with k bits spans)) ≡ done_with k' bits' spans'
         → (bits' ≡ bits) × (spans' ≡ spans) × (bits ≤ 8 * room.image) × (spans ≤ room.spans)
     go true b ea eb q = absurd (refused-done q)
     go false true ea eb q = absurd (refused-done q)
-    go false false ea eb q = (cc, cc, ltb-false (8 * room.image) bits ea, ltb-false room.spans spans eb)
+    go false false ea eb q = (sym (ap length_done q), sym (ap spans_done q), ltb-false (8 * room.image) bits ea, ltb-false room.spans spans eb)
 
-row_fine : (closed : Bool) (vs : List Visit) (fill : ℕ) (room : Room) (k k' bits spans : ℕ) → build_row closed vs fill room k ≡ Done k' bits spans
+row_fine : (closed : Bool) (vs : List Visit) (fill : ℕ) (room : Room) (k k' bits spans : ℕ) → build_row closed vs fill room k ≡ done_with k' bits spans
     → Fine closed vs fill room bits spans
 row_fine closed vs fill room k k' bits spans e = go (placed_all closed vs) refl e
   where
-    go : (q : Placed) → placed_all closed vs ≡ q → placed_build room k (length_of fill (items_of vs)) (length (spans_of vs)) q ≡ Done k' bits spans
+    go : (q : Placed) → placed_all closed vs ≡ q → placed_build room k (length_of fill (items_of vs)) (length (spans_of vs)) q ≡ done_with k' bits spans
         → Fine closed vs fill room bits spans
     go (stops why) h f = absurd (refused-done f)
     go (holds s) h f =
@@ -65,34 +63,34 @@ module _ (c : Call) where
       subst (λ (o : Output). o.padding ≡ padding_by (paddings_of (program_in c) (row_of_pass c.given.lists o.passes)) o.build)
       (sym c.meets.answer) refl
 
-pub settled-fine : (b : Input) (room : Room) (passes : ℕ) (s : Settled) (k bits spans : ℕ) → settled_build b room passes s ≡ Done k bits spans
+pub settled-fine : (b : Input) (room : Room) (passes : ℕ) (s : Result ℕ Refusal) (k bits spans : ℕ) → settled_build b room passes s ≡ done_with k bits spans
     → Fine (closed_of b) (visits_of b passes) (fill_of b) room bits spans
-settled-fine b room passes (Unsettled why) k bits spans e = absurd (refused-done e)
-settled-fine b room passes (At k') k bits spans e = row_fine (closed_of b) (visits_of b passes) (fill_of b) room k' k bits spans e
+settled-fine b room passes (Err why) k bits spans e = absurd (refused-done e)
+settled-fine b room passes (Ok k') k bits spans e = row_fine (closed_of b) (visits_of b passes) (fill_of b) room k' k bits spans e
 
 -- ---- the K that an accepted build answers is the layout's
 
-abbrev k_of : Build → ℕ
-k_of (Done k bits spans) = k
-k_of (Refused why) = 0
+abbrev k_of : Result Built Refusal → ℕ
+k_of (Ok ended) = ended.k
+k_of (Err why) = 0
 
 k-of-room : (t u : Bool) (j bits' spans' : ℕ) {k bits spans : ℕ}
-    → pick t (Refused (TooShort 0)) (pick u (Refused (TooShort 1)) (Done j bits' spans')) ≡ Done k bits spans → j ≡ k
+    → pick t (Err (TooShort 0)) (pick u (Err (TooShort 1)) (done_with j bits' spans')) ≡ done_with k bits spans → j ≡ k
 k-of-room true u j bits' spans' e = absurd (refused-done e)
 k-of-room false true j bits' spans' e = absurd (refused-done e)
 k-of-room false false j bits' spans' e = ap k_of e
 
-k-of-placed : (room : Room) (j bits' spans' : ℕ) {k bits spans : ℕ} (p : Placed) → placed_build room j bits' spans' p ≡ Done k bits spans → j ≡ k
+k-of-placed : (room : Room) (j bits' spans' : ℕ) {k bits spans : ℕ} (p : Placed) → placed_build room j bits' spans' p ≡ done_with k bits spans → j ≡ k
 k-of-placed room j bits' spans' (stops why) e = absurd (refused-done e)
 k-of-placed room j bits' spans' (holds stored) e = k-of-room (ltb (8 * room.image) bits') (ltb room.spans spans') j bits' spans' e
 
-settled-k : (b : Input) (room : Room) (passes : ℕ) {k bits spans : ℕ} (s : Settled) → settled_build b room passes s ≡ Done k bits spans → s ≡ At k
-settled-k b room passes (Unsettled why) e = absurd (refused-done e)
-settled-k b room passes (At j) e =
+settled-k : (b : Input) (room : Room) (passes : ℕ) {k bits spans : ℕ} (s : Result ℕ Refusal) → settled_build b room passes s ≡ done_with k bits spans → s ≡ Ok k
+settled-k b room passes (Err why) e = absurd (refused-done e)
+settled-k b room passes (Ok j) e =
     let vs = visits_of b passes in
-    ap At (k-of-placed room j (length_of (fill_of b) (items_of vs)) (length (spans_of vs)) (placed_all (closed_of b) vs) e)
+    ap Ok (k-of-placed room j (length_of (fill_of b) (items_of vs)) (length (spans_of vs)) (placed_all (closed_of b) vs) e)
 
-pub settled_is : (a : Accepted) → settled_of a.call.given ≡ At a.k
+pub settled_is : (a : Accepted) → settled_of a.call.given ≡ Ok a.k
 settled_is a =
     settled-k a.call.given (room_of a.call.old) a.call.answer.passes (settled_of a.call.given) (sym (build-is a.call) ∙ a.done)
 

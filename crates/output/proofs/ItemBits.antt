@@ -1,10 +1,8 @@
 -- Theorems about what ItemBits defines.
-use Rattle.std.specs.Prelude.{◌≡◌, refl, true, ◌⊎◌, ℕ, ◌+◌, ◌*◌, ◌≤◌, ◌<◌, length}
+use Rattle.std.specs.Prelude.{◌≡◌, refl, true, ◌⊎◌, ℕ, ◌+◌, ◌*◌, ◌≤◌, ◌<◌, length, Some, Option, None}
 use Rattle.std.proofs.Common.{ap, subst, ◌∙◌, inl, inr, ⊎_elim, le_trans}
 use mathlib.Core.List.Memᴰ
 use mathlib.Core.List.{List, Memᴰ}
-use Rattle.prelude.specs.declared.Opt.{Opt}
-use Rattle.prelude.specs.declared.Opt.TheVariants.{None, Some}
 use Rattle.bankdef.specs.Check.{banks_of}
 use Rattle.iter.specs.Address.{out_at}
 use Rattle.nodes.specs.declared.Node.{Node}
@@ -38,7 +36,7 @@ module _ (b : Accepted) where
       let (f, e, is) = from_out (visit_in b.call n).def.offset (position_of (visit_in b.call n)) (visit_in b.call n).node w.1 in
       (n, low, w.0, f, e, is)
     where
-      from_out : (o : Opt) (position : ℕ) (y : Node) → Memᴰ x (standing (out_at o position) y)
+      from_out : (o : Option ℕ) (position : ℕ) (y : Node) → Memᴰ x (standing (out_at o position) y)
           → (f : ℕ) × (o ≡ Some f) × (x ≡ record { at = f + position; size = y.number; from = y.operand })
       from_out None position y k = absurd (Memᴰ.not-nil k)
       from_out (Some f) position y k = (f, refl, Memᴰ.eq_of_singleton k)

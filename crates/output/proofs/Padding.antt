@@ -30,9 +30,9 @@ use Rattle.build_plan.specs.Laws.Plan.{get_d-of-banks}
 use Rattle.output.specs.Calls.{Accepted, program_in, row_in, nodes_in, visit_in, visits_in, closed_in}
 use Rattle.output.proofs.Calls.{fine}
 use Rattle.output.proofs.CallsLaws.{padding-is}
-use Rattle.output.specs.declared.Build.TheVariants.{Done}
 use Rattle.output.specs.declared.Output.{Output}
 use Rattle.output.specs.Padding.{reserve_then_align, seven_bits}
+use Rattle.output.specs.Built.{done_with}
 
 module _ (a : Accepted) where
   sums : a.call.answer.padding ≡ paddings_of (program_in a.call) (row_in a.call)
@@ -64,7 +64,7 @@ module _ (a : Accepted) where
       ∙ ap (λ (l : Lost). sizes_to (program_in a.call) (row_in a.call) bank (nodes_in a.call) + l.bits) (sym (padding-is-lost-bits bank low))
 
 module _ (room : Room) where
-  enough : room_for room 1 0 0 ≡ Done 1 0 0
+  enough : room_for room 1 0 0 ≡ done_with 1 0 0
   enough = pick-false _ _ (le-ltb (8 * room.image) 0 (omega arith)) ∙ pick-false _ _ (le-ltb room.spans 0 (omega arith))
 
   -- the padding of an answer whose build is accepted

@@ -1,5 +1,5 @@
 -- Theorems about what RefusedAtNode defines.
-use Rattle.std.specs.Prelude.{◌≡◌, refl, true, false, ◌&&◌, ◌⊎◌, ◌↔◌, ℕ, ◌+◌, ◌≤◌, ◌<◌, length}
+use Rattle.std.specs.Prelude.{◌≡◌, refl, true, false, ◌&&◌, ◌⊎◌, ◌↔◌, ℕ, ◌+◌, ◌≤◌, ◌<◌, length, Err}
 use Rattle.std.proofs.Common.{sym, ap, ap₂, subst, ◌∙◌, inl, inr, ⊎_elim, arith}
 use mathlib.Core.List.{List, Memᴰ}
 use Rattle.prelude.specs.Laws.Bools.{both}
@@ -10,8 +10,7 @@ use Rattle.prelude.specs.declared.Refusal.{Refusal}
 use Rattle.prelude.specs.declared.Refusal.TheVariants.{DefaultBank, PastBank, NoOutput}
 use Rattle.prelude.specs.declared.Place.{Place}
 use Rattle.prelude.specs.declared.Place.TheVariants.{One, Two}
-use Rattle.prelude.specs.declared.Verdict.{Verdict}
-use Rattle.prelude.specs.declared.Verdict.TheVariants.{Accepted, Refused as TurnedAway}
+use Rattle.prelude.specs.Verdict.{Verdict, Accepted}
 use Rattle.nodes.specs.Kinds.{size_of}
 use Rattle.overlap_checker.specs.declared.Entry.{Entry}
 use Rattle.overlap_checker.specs.Interval.{interval, StrictlyInside}
@@ -157,7 +156,7 @@ module _ (c : Call) (n : ℕ) (r : Reaches c n) (p : GetsPast c n r) (e : Entry)
 
       to : (v : Verdict) → answer r.stored e n ≡ v → told_verdict v ≡ refuses number place → RefusedThere c n number place
       to Accepted a t = absurd (gave-refused t)
-      to (TurnedAway why) a t =
+      to (Err why) a t =
           let (k, l) = same-told t in
           let w = not-holds (eleven-exactly c n r) p.eleven in
           subst (λ (k : ℕ). RefusedThere c n k place) k

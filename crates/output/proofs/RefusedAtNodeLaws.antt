@@ -1,5 +1,5 @@
 -- Laws that Theorems/RefusedAtNode rests on.
-use Rattle.std.specs.Prelude.{◌≡◌, List, [], ◌∷◌, ◌↔◌, ℕ, suc, ◌+◌, ◌≤◌, ◌<◌, eqb, length}
+use Rattle.std.specs.Prelude.{◌≡◌, List, [], ◌∷◌, ◌↔◌, ℕ, suc, ◌+◌, ◌≤◌, ◌<◌, eqb, length, Option, Some, None, Err, Result}
 use Rattle.std.proofs.Math.Path.{refl, ap}
 use Rattle.std.proofs.Common.{sym, ◌∙◌, inl, inr, ⊎_elim, arith, ltb-true, lt-ltb, eqb-true, eq-eqb}
 use mathlib.Core.Bool.{Bool, true, false, ◌&&◌}
@@ -11,13 +11,9 @@ use Rattle.prelude.specs.Told.{Told, gives, refuses, told_refusal, Nothing, noth
 use Rattle.prelude.specs.declared.Refusal.{Refusal}
 use Rattle.prelude.specs.declared.Refusal.TheVariants.{DefaultBank, PastBank, NoOutput}
 use Rattle.prelude.specs.declared.Place.{Place}
-use Rattle.prelude.specs.declared.Verdict.{Verdict}
-use Rattle.prelude.specs.declared.Verdict.TheVariants.{Accepted, Refused as TurnedAway}
-use Rattle.prelude.specs.declared.Opt.{Opt}
-use Rattle.prelude.specs.declared.Opt.TheVariants.{None, Some}
+use Rattle.prelude.specs.Verdict.{Verdict, Accepted}
 use Rattle.iter.specs.Address.{out_at}
 use Rattle.iter.specs.declared.Pos.{Pos}
-use Rattle.iter.specs.declared.Moved.{Moved}
 use Rattle.nodes.specs.Kinds.{size_of}
 use Rattle.nodes.specs.Lists.{first_of}
 use Rattle.overlap_checker.specs.declared.Entry.{Entry}
@@ -25,7 +21,6 @@ use Rattle.overlap_checker.specs.State.{State, empty_state, answer}
 use Rattle.overlap_checker.specs.Folds.{state_after}
 use Rattle.overlap_checker.specs.Theorems.Answers.{three_ways, answer-overlaps, answer-full, answer-passes}
 use Rattle.build_visits.specs.declared.Visit.{Visit}
-use Rattle.output.specs.declared.Build.TheVariants.{Refused}
 use Rattle.build_visits.specs.Laws.VisitLaws.{visits-next, visits-split}
 use Rattle.build_visits.specs.Items.{is_written, items_of, length_of}
 use Rattle.build_visits.specs.Spans.{spans_of}
@@ -62,7 +57,7 @@ module _ (b : Input) (v : Visit) where
     λ h. rw (eq-eqb v.bank 0 h.0, closed-exactly.1 h.1),
   )
 
-  pub past : (o : Opt) (end : ℕ) → (ends_past o end ≡ true) ↔ ((size : ℕ) × (o ≡ Some size) × (size < end))
+  pub past : (o : Option ℕ) (end : ℕ) → (ends_past o end ≡ true) ↔ ((size : ℕ) × (o ≡ Some size) × (size < end))
   past None end = (λ e. absurd (mathlib.Core.Bool.true≢false (sym e)), λ h. absurd (let z : ◌≡◌ {A = ℕ} 0 1 = none-some h.0 h.1 in omega arith))
     where
       none-some : (size : ℕ) → None ≡ Some size → ◌≡◌ {A = ℕ} 0 1
@@ -72,7 +67,7 @@ module _ (b : Input) (v : Visit) where
       some_same : (a b : ℕ) → Some a ≡ Some b → a ≡ b
       some_same a b e = cc
 
-  pub lacks : (o : Opt) (position : ℕ) → (lacks_output (out_at o position) ≡ true) ↔ (o ≡ None)
+  pub lacks : (o : Option ℕ) (position : ℕ) → (lacks_output (out_at o position) ≡ true) ↔ (o ≡ None)
   lacks None position = (λ e. refl, λ e. refl)
   lacks (Some f) position = (λ e. absurd (mathlib.Core.Bool.true≢false (sym e)), λ e. unlike cc)
 
@@ -86,10 +81,10 @@ holds_not {b} i e p = mathlib.Core.Bool.true≢false (sym (i.1 p) ∙ e)
 pub not-holds : {b : Bool} {P : Type 0} → (b ≡ true) ↔ P → (P → ⊥) → b ≡ false
 not-holds {b} i n = decided b (λ e. absurd (n (i.0 e))) (λ e. e)
 
-turned_same : {a b : Refusal} → TurnedAway a ≡ TurnedAway b → b ≡ a
+turned_same : {a b : Refusal} → ◌≡◌ {A = (Verdict)} (Err a) (Err b) → b ≡ a
 turned_same e = cc
 
-never : {why : Refusal} → Accepted ≡ TurnedAway why → ⊥
+never : {why : Refusal} → Accepted ≡ Err why → ⊥
 never e = unlike cc
 
 module _ (closed : Bool) (s : State) (v : Visit) (at : Pos) where
@@ -106,9 +101,9 @@ module _ (closed : Bool) (s : State) (v : Visit) (at : Pos) where
   opened =
       pick (is_placed v.node)
       (first_of
-      (pick (uses_default closed v.bank) (TurnedAway (DefaultBank v.node.index))
-      (pick (ends_past v.def.size (at.position + size_of v.node)) (TurnedAway (PastBank v.node.index))
-      (pick (is_written v.node && lacks_output v.out) (TurnedAway (NoOutput v.node.index)) Accepted)))
+      (pick (uses_default closed v.bank) (Err (DefaultBank v.node.index))
+      (pick (ends_past v.def.size (at.position + size_of v.node)) (Err (PastBank v.node.index))
+      (pick (is_written v.node && lacks_output v.out) (Err (NoOutput v.node.index)) Accepted)))
       (answered s v.node.index (offer_of v)))
       Accepted
 
@@ -118,14 +113,14 @@ module _ (closed : Bool) (s : State) (v : Visit) (at : Pos) where
       ap (λ (w : Verdict). pick (is_placed v.node) (first_of w (answered s v.node.index (offer_of v))) Accepted)
       (checked-opens closed v.bank v.def v.node at v.out)
 
-  pub cause-of : (why : Refusal) → placing closed v.bank v.def s v.node at v.out ≡ TurnedAway why → Cause closed s v at why
+  pub cause-of : (why : Refusal) → placing closed v.bank v.def s v.node at v.out ≡ Err why → Cause closed s v at why
   unfolding opened
   cause-of why e = go (is_placed v.node) (uses_default closed v.bank) ends nowhere refl refl refl refl (sym opens ∙ e)
     where
       go : (p d q w : Bool) → is_placed v.node ≡ p → uses_default closed v.bank ≡ d → ends_past v.def.size (at.position + size_of v.node) ≡ q
           → (is_written v.node && lacks_output v.out) ≡ w
-          → pick p (first_of (pick d (TurnedAway (DefaultBank index)) (pick q (TurnedAway (PastBank index)) (pick w (TurnedAway (NoOutput index)) Accepted)))
-          (answered s index (offer_of v))) Accepted ≡ TurnedAway why
+          → pick p (first_of (pick d (Err (DefaultBank index)) (pick q (Err (PastBank index)) (pick w (Err (NoOutput index)) Accepted)))
+          (answered s index (offer_of v))) Accepted ≡ Err why
           → Cause closed s v at why
       go false d q w ep ed eq ew h = absurd (never h)
       go true true q w ep ed eq ew h = nine ep ed (turned_same h)
@@ -133,7 +128,7 @@ module _ (closed : Bool) (s : State) (v : Visit) (at : Pos) where
       go true false false true ep ed eq ew h = eleven ep ed eq ew (turned_same h)
       go true false false false ep ed eq ew h = store ep ed eq ew h
 
-  pub cause-refuses : (why : Refusal) → Cause closed s v at why → placing closed v.bank v.def s v.node at v.out ≡ TurnedAway why
+  pub cause-refuses : (why : Refusal) → Cause closed s v at why → placing closed v.bank v.def s v.node at v.out ≡ Err why
   unfolding opened
   cause-refuses why (nine p d e) = opens ∙ rw (p, d, e)
   cause-refuses why (ten p d q e) = opens ∙ rw (p, d, q, e)
@@ -155,12 +150,12 @@ module _ (c : Call) (n : ℕ) (r : Reaches c n) where
       ∙ placed-last (closed_in c) (holds empty_state) (visits_before c n) visit
       ∙ ap (placed_next (closed_in c) visit) r.before
       ∙ ap
-      (λ (m : Moved). placed_if (verdict_seen (closed_in c) visit.bank visit.def r.stored visit.node visit.out m)
+      (λ (m : Result Pos Refusal). placed_if (verdict_seen (closed_in c) visit.bank visit.def r.stored visit.node visit.out m)
       (state_after r.stored (offer_of visit)))
       r.sees
 
   -- the whole build stops there
-  stops-all : (why : Refusal) → placed_all (closed_in c) (visits_before c (suc n)) ≡ stops why → c.answer.build ≡ Refused why
+  stops-all : (why : Refusal) → placed_all (closed_in c) (visits_before c (suc n)) ≡ stops why → c.answer.build ≡ Err why
   stops-all why e =
       let (rest, split) = visits-split (program_in c) (row_in c) (suc n) (nodes_in c) r.listed in
       let whole : placed_all (closed_in c) (visits_in c) ≡ stops why =
@@ -178,9 +173,9 @@ module _ (c : Call) (n : ℕ) (r : Reaches c n) where
       (cause-refuses (closed_in c) r.stored visit r.at why cause) in
       record { why = why; stopped = stop; told = ap told_build (stops-all why stop) }
 
-  stops-if : (w : Verdict) (s : State) (why : Refusal) → placed_if w s ≡ stops why → w ≡ TurnedAway why
+  stops-if : (w : Verdict) (s : State) (why : Refusal) → placed_if w s ≡ stops why → w ≡ Err why
   stops-if Accepted s why e = unlike cc
-  stops-if (TurnedAway other) s why e = cc
+  stops-if (Err other) s why e = cc
 
   pub cause-there : (number : ℕ) (place : Place) → RefusedThere c n number place
       → (why : Refusal) × Cause (closed_in c) r.stored visit r.at why × (number_of why ≡ number) × (place_of why ≡ place)
@@ -201,14 +196,14 @@ module _ (c : Call) (n : ℕ) (r : Reaches c n) where
 -- ---- 9, 10 and 11
 
 -- what the store refuses has number 12 or 13
-answer-number : (s : State) (e : Entry) (node : ℕ) (why : Refusal) → answer s e node ≡ TurnedAway why → 12 ≤ number_of why
+answer-number : (s : State) (e : Entry) (node : ℕ) (why : Refusal) → answer s e node ≡ Err why → 12 ≤ number_of why
 answer-number s e node why a =
     three_ways s e
     (λ h. let z : number_of why ≡ 12 = ap number_of (turned_same (sym (answer-overlaps s e node h) ∙ a)) in omega arith)
     (λ h l. let z : number_of why ≡ 13 = ap number_of (turned_same (sym (answer-full s e node h l) ∙ a)) in omega arith)
     (λ h l. absurd (never (sym (answer-passes s e node h l) ∙ a)))
 
-pub store-number : (s : State) (node : ℕ) (l : List Entry) (why : Refusal) → answered s node l ≡ TurnedAway why → 12 ≤ number_of why
+pub store-number : (s : State) (node : ℕ) (l : List Entry) (why : Refusal) → answered s node l ≡ Err why → 12 ≤ number_of why
 store-number s node [] why a = absurd (never a)
 store-number s node (e ∷ l) why a = answer-number s e node why a
 

@@ -1,4 +1,5 @@
 -- From the passes to the row's build: what a layout that settled says of its lists, and the public answer from the row's.
+use Rattle.std.specs.Prelude.{Ok, Err, Result, Option, None, Some}
 use mathlib.Core.Path.{◌≡◌, refl, sym, ap, ap₂, subst, ◌∙◌}
 use mathlib.Core.Logic.{⊎_elim}
 use mathlib.Core.Bool.{Bool, true, false, ◌&&◌, ◌||◌}
@@ -16,12 +17,9 @@ use Rattle.prelude.specs.declared.Refusal.{Refusal}
 use Rattle.prelude.specs.declared.Refusal.TheVariants.{Malformed, TooShort}
 use Rattle.prelude.specs.declared.Place.TheVariants.{One}
 use Rattle.prelude.specs.Told.{gives, refuses}
-use Rattle.prelude.specs.declared.Offset.{Offset}
-use Rattle.prelude.specs.declared.Offset.TheVariants.{None as Nowhere, At as Out}
+use Rattle.prelude.specs.Verdict.{Verdict, Accepted}
 use Rattle.nodes.specs.Kinds.{is_item}
 use Rattle.nodes.specs.declared.Node.{Node}
-use Rattle.prelude.specs.declared.Verdict.{Verdict}
-use Rattle.prelude.specs.declared.Verdict.TheVariants.{Accepted, Refused as TurnedAway}
 use Rattle.bankdef.specs.Check.{banks_of, check_of}
 use Rattle.bankdef.specs.Fill.{fill_by}
 use Rattle.bankdef.specs.declared.Bankdefs.{Bankdefs}
@@ -32,8 +30,6 @@ use Rattle.resolver.specs.Layout.{unless, layout_of}
 use Rattle.nodes.specs.Theorems.Sound.{accepted-row, accepted-rows}
 use Rattle.resolver.specs.declared.Choices.{Choices}
 use Rattle.resolver.specs.declared.Resolution.{Resolution}
-use Rattle.resolver.specs.declared.Settled.{Settled}
-use Rattle.resolver.specs.declared.Settled.TheVariants.{At, Refused as Unsettled}
 use Rattle.resolver.specs.Switches.{Switches}
 use Rattle.resolver.specs.Theorems.Switches.{accepted-switches}
 use Rattle.nodes.specs.Laws.Counts.{too-many-nodes}
@@ -49,16 +45,16 @@ use Rattle.output.specs.Output.{build_of, visits_of, passes_of, settled_of}
 use Rattle.output.specs.Output.{told_build, room_told, placed_told, settled_told, left_by, Builds}
 use Rattle.output.specs.Steps.{InValues, RowBuilt}
 use Rattle.build_visits.specs.declared.Visit.{Visit}
-use Rattle.output.specs.declared.Build.TheVariants.{Done, Refused}
 use Rattle.output.specs.declared.Output.{Output}
+use Rattle.output.specs.Built.{done_with}
 
 -- ---- a layout that settled passed every check
 
-unless-at : (v : Verdict) (q : Resolution) (k : ℕ) → (unless v q).settled ≡ At k → (v ≡ Accepted) × (q.settled ≡ At k)
+unless-at : (v : Verdict) (q : Resolution) (k : ℕ) → (unless v q).settled ≡ Ok k → (v ≡ Accepted) × (q.settled ≡ Ok k)
 unless-at Accepted q k e = (refl, e)
-unless-at (TurnedAway why) q k e = unlike cc
+unless-at (Err why) q k e = unlike cc
 
-through : (b : Bool) (v : Verdict) (why : Refusal) → pick b v (TurnedAway why) ≡ Accepted → v ≡ Accepted
+through : (b : Bool) (v : Verdict) (why : Refusal) → pick b v (Err why) ≡ Accepted → v ≡ Accepted
 through true v why e = e
 through false v why e = unlike cc
 
@@ -86,7 +82,7 @@ room-told : (room : Room) (k bits spans : ℕ) → told_build (room_for room k b
 room-told room k bits spans = first (ltb (8 * room.image) bits) (ltb room.spans spans)
   where
     first : (a b : Bool)
-        → told_build (pick a (Refused (TooShort 0)) (pick b (Refused (TooShort 1)) (Done k bits spans)))
+        → told_build (pick a (Err (TooShort 0)) (pick b (Err (TooShort 1)) (done_with k bits spans)))
         ≡ pick a (refuses 14 (One 0)) (pick b (refuses 14 (One 1)) (gives (record { k = k; length = bits; spans = spans })))
     first true b = refl
     first false true = refl
@@ -96,9 +92,9 @@ placed-told : (room : Room) (k bits spans : ℕ) (q : Placed) → told_build (pl
 placed-told room k bits spans (stops why) = refl
 placed-told room k bits spans (holds s) = room-told room k bits spans
 
-settled-told : (b : Input) (room : Room) (s : Settled) → told_build (settled_build b room (passes_of b) s) ≡ settled_told b room s
-settled-told b room (Unsettled why) = refl
-settled-told b room (At k) = placed-told room k _ _ (placed_all (closed_of b) (visits_of b (passes_of b)))
+settled-told : (b : Input) (room : Room) (s : Result ℕ Refusal) → told_build (settled_build b room (passes_of b) s) ≡ settled_told b room s
+settled-told b room (Err why) = refl
+settled-told b room (Ok k) = placed-told room k _ _ (placed_all (closed_of b) (visits_of b (passes_of b)))
 
 -- the contract, from the build by the passes that were run
 pub contract : (b : Input) (r : Resolution) → r ≡ layout_of b.banks b.lists b.choices → (old new : Lent) (x : Output)
@@ -122,14 +118,14 @@ contract b r e old new x same left =
 
 module _ (banks : Bankdefs) (l : Lists) (m : Choices) (r : Resolution) (resolves : r ≡ layout_of banks l m) where
   -- the answer by what the passes settled
-  abbrev answers_for : Lent → Settled → Output
+  abbrev answers_for : Lent → Result ℕ Refusal → Output
   answers_for old s = output_of (program banks l) (row_of_pass l r.passes) r.passes (settled_build (input banks l m) (room_of old) r.passes s)
 
-  module _ (k : ℕ) (settles : r.settled ≡ At k) where
+  module _ (k : ℕ) (settles : r.settled ≡ Ok k) where
     both-checks : (check_of banks ≡ Accepted) × (lists_of banks.len l m.fill ≡ Accepted)
     unfolding layout_of
     both-checks =
-        let whole : (layout_of banks l m).settled ≡ At k = sym (ap (λ (q : Resolution). q.settled) resolves) ∙ settles in
+        let whole : (layout_of banks l m).settled ≡ Ok k = sym (ap (λ (q : Resolution). q.settled) resolves) ∙ settles in
         let (a, inner) = unless-at (check_of banks) (unless (lists_of banks.len l m.fill) (resolution_of banks l m.limit)) k whole in
         (a, (unless-at (lists_of banks.len l m.fill) (resolution_of banks l m.limit) k inner).0)
 
@@ -147,7 +143,7 @@ module _ (banks : Bankdefs) (l : Lists) (m : Choices) (r : Resolution) (resolves
     settled-few =
         ⊎_elim (λ many. absurd (never (too-many-nodes banks.len l m.fill many ∙ checks))) (λ few. few) (lt-or-le max_nodes (length l.kinds))
       where
-        never : TurnedAway (Malformed 0) ≡ Accepted → ⊥
+        never : Err (Malformed 0) ≡ Accepted → ⊥
         never e = unlike cc
 
     -- every written item's bits are within the value bytes, in the row of any pass
@@ -169,10 +165,10 @@ module _ (banks : Bankdefs) (l : Lists) (m : Choices) (r : Resolution) (resolves
         let inside = node-within n h i low (subst (λ (y : Node). is_written y ≡ true) here w) in
         standing-within v.out v.node (rw here inside) own
       where
-        standing-within : (out : Offset) (y : Node) → y.operand + y.number ≤ 8 * length l.values → Memᴰ x (standing out y)
+        standing-within : (out : Option ℕ) (y : Node) → y.operand + y.number ≤ 8 * length l.values → Memᴰ x (standing out y)
             → x.from + x.size ≤ 8 * length l.values
-        standing-within Nowhere y inside k = absurd (Memᴰ.not-nil k)
-        standing-within (Out o) y inside k = rw (Memᴰ.eq_of_singleton k) inside
+        standing-within None y inside k = absurd (Memᴰ.not-nil k)
+        standing-within (Some o) y inside k = rw (Memᴰ.eq_of_singleton k) inside
 
     -- ---- the lists' parts are the program and its row
 
@@ -211,7 +207,7 @@ module _ (banks : Bankdefs) (l : Lists) (m : Choices) (r : Resolution) (resolves
           contract (input banks l m) r resolves old new x
           (built.answer ∙ sym (ap (answers_for old) settles)) built.left
 
-  pub refused : (why : Refusal) → r.settled ≡ Unsettled why → (old : Lent) (x : Output) → x ≡ refused_after r.passes why → Builds (input banks l m) old x old
+  pub refused : (why : Refusal) → r.settled ≡ Err why → (old : Lent) (x : Output) → x ≡ refused_after r.passes why → Builds (input banks l m) old x old
   refused why settles old x is =
       contract (input banks l m) r resolves old old x
       (is ∙ sym (ap (answers_for old) settles))

@@ -11,8 +11,8 @@ use Rattle.build_visits.specs.Spans.{Span, spans_of}
 use Rattle.output.specs.Output.{Input, closed_of, Lent, Room}
 use Rattle.output.specs.Output.{Builds}
 use Rattle.build_visits.specs.declared.Visit.{Visit}
-use Rattle.output.specs.declared.Build.TheVariants.{Done}
 use Rattle.output.specs.declared.Output.{Output}
+use Rattle.output.specs.Built.{done_with}
 
 -- what was given, what was lent, the answer, and what is lent afterwards
 pub record Call : Type 0 where
@@ -61,7 +61,7 @@ pub record Accepted : Type 0 where
   pub k : ℕ
   pub bits : ℕ
   pub spans : ℕ
-  pub done : call.answer.build ≡ Done k bits spans
+  pub done : call.answer.build ≡ done_with k bits spans
 
 -- every node was placed, and there was room
 pub record Fine (closed : Bool) (vs : List Visit) (fill : ℕ) (room : Room) (bits spans : ℕ) : Type 0 where

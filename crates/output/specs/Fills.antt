@@ -1,8 +1,7 @@
 -- Ticket 8, "Fill must reach the end": what the choice of the fill gives a build. The image's bits are told once, over its length, for both
 -- choices (ItemBits, Gaps); here is which length each choice fills to, the one-bit lock bank that the inherited fill leaves out, and that the
 -- choice changes the length alone.
-use Rattle.std.specs.Prelude.{true, false, [], ◌∷◌, ℕ, pos, replicate}
-use Rattle.prelude.specs.declared.Opt.TheVariants.{None, Some}
+use Rattle.std.specs.Prelude.{true, false, [], ◌∷◌, ℕ, pos, replicate, Some, None}
 use Rattle.bankdef.specs.Check.{no_bank}
 use Rattle.bankdef.specs.declared.Bankdef.{Bankdef}
 use Rattle.bankdef.specs.declared.Bankdefs.{Bankdefs}

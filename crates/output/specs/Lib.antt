@@ -1,3 +1,4 @@
+pub mod Built
 pub mod Calls
 pub mod DefaultBank
 pub mod Fills

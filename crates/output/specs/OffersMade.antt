@@ -1,8 +1,7 @@
 -- What each node offers to the store: "Written items, and reserves in banks with an offset", at "offset plus position"; and where a build that
 -- is refused was refused.
-use Rattle.std.specs.Prelude.{◌≡◌, ℕ, ◌<◌}
+use Rattle.std.specs.Prelude.{◌≡◌, ℕ, ◌<◌, Err}
 use Rattle.prelude.specs.declared.Refusal.{Refusal}
-use Rattle.prelude.specs.declared.Verdict.TheVariants.{Refused as TurnedAway}
 use Rattle.overlap_checker.specs.State.{State}
 use Rattle.build_plan.specs.Placing.{verdict_on}
 use Rattle.build_plan.specs.Placing.{holds, placed_all}
@@ -16,4 +15,4 @@ pub record FirstRefused (c : Call) (why : Refusal) : Type 0 where
   pub listed : n < nodes_in c
   pub stored : State
   pub before : placed_all (closed_in c) (visits_before c n) ≡ holds stored
-  pub verdict : verdict_on (closed_in c) stored (visit_in c n) ≡ TurnedAway why
+  pub verdict : verdict_on (closed_in c) stored (visit_in c n) ≡ Err why

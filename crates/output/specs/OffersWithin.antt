@@ -1,8 +1,7 @@
 -- What the nodes of a build offer stays within an offer's limits: an item that ends past the last position is refused in the walk, and a bank's offset has
 -- 32 bits.
-use Rattle.std.specs.Prelude.{ℕ, ◌≤◌, ◌≡◌}
+use Rattle.std.specs.Prelude.{ℕ, ◌≤◌, ◌≡◌, Some}
 use Rattle.prelude.specs.Limits.{max_position}
-use Rattle.prelude.specs.declared.Opt.TheVariants.{Some}
 use Rattle.bankdef.specs.declared.Bankdefs.{Bankdefs}
 use Rattle.resolver.specs.Once.{bank_record}
 

@@ -1,5 +1,5 @@
 -- The build's answer, and what stands in everything lent afterwards (document 01).
-use Rattle.std.specs.Prelude.{◌≡◌, ℕ, ◌*◌, min, Bool, List, ltb, ℤ, length, replicate}
+use Rattle.std.specs.Prelude.{◌≡◌, ℕ, ◌*◌, min, Bool, List, ltb, ℤ, length, replicate, Result, Err, Ok}
 use Rattle.prelude.specs.Limits.{max_banks}
 use Rattle.prelude.specs.Pick.{pick}
 use Rattle.prelude.specs.Told.{Told, gives, refuses, told_refusal}
@@ -16,8 +16,6 @@ use Rattle.resolver.specs.Once.{Program}
 use Rattle.resolver.specs.Passes.{program, row_of_pass}
 use Rattle.resolver.specs.Layout.{layout_of}
 use Rattle.resolver.specs.declared.Choices.{Choices}
-use Rattle.resolver.specs.declared.Settled.{Settled}
-use Rattle.resolver.specs.declared.Settled.TheVariants.{At, Refused as Unsettled}
 use Rattle.build_visits.specs.Visits.{visits}
 use Rattle.build_visits.specs.Items.{items_of, length_of, image_of}
 use Rattle.build_write.specs.Blank.{blank_of}
@@ -25,9 +23,9 @@ use Rattle.build_plan.specs.Placing.{closes_default, Placed, holds, stops, place
 use Rattle.build_plan.specs.Plan.{paddings_of}
 use Rattle.build_visits.specs.Spans.{spans_of, over, addresses, words, sizes}
 use Rattle.build_visits.specs.declared.Visit.{Visit}
-use Rattle.output.specs.declared.Build.{Build}
-use Rattle.output.specs.declared.Build.TheVariants.{Done, Refused}
 use Rattle.output.specs.declared.Output.{Output}
+use Rattle.output.specs.declared.Built.{Built}
+use Rattle.output.specs.Built.{done_with}
 
 -- ---- what is given, and what is lent
 
@@ -62,32 +60,32 @@ room_of l = record { image = length l.image; spans = min (length l.addresses) (m
 
 -- "each bank should carry the sum of bits lost to `align` and to label alignment in the last pass", and "everything that uses the distance passes both on"
 -- (document 02, Ticket 2): an accepted build answers those sums, of banks 0 to 15, a refused one zeros
-abbrev pub padding_by : List Lost → Build → List Lost
-padding_by sums (Done k bits spans) = sums
-padding_by sums (Refused why) = replicate max_banks no_lost
+abbrev pub padding_by : List Lost → Result Built Refusal → List Lost
+padding_by sums (Ok ended) = sums
+padding_by sums (Err why) = replicate max_banks no_lost
 
 -- a build's answer with the passes run, and each bank's padding where it is accepted
-abbrev pub output_of : Program → Row → ℕ → Build → Output
+abbrev pub output_of : Program → Row → ℕ → Result Built Refusal → Output
 output_of p row passes x = record { build = x; passes = passes; padding = padding_by (paddings_of p row) x }
 
 abbrev pub refused_after : ℕ → Refusal → Output
-refused_after passes why = record { build = Refused why; passes = passes; padding = replicate max_banks no_lost }
+refused_after passes why = record { build = Err why; passes = passes; padding = replicate max_banks no_lost }
 
 -- ---- the answer
 
 -- "14 comes last: image, then spans."
-abbrev pub room_for : Room → ℕ → ℕ → ℕ → Build
+abbrev pub room_for : Room → ℕ → ℕ → ℕ → Result Built Refusal
 room_for room k bits spans =
-    pick (ltb (8 * room.image) bits) (Refused (TooShort 0))
-    (pick (ltb room.spans spans) (Refused (TooShort 1))
-    (Done k bits spans))
+    pick (ltb (8 * room.image) bits) (Err (TooShort 0))
+    (pick (ltb room.spans spans) (Err (TooShort 1))
+    (done_with k bits spans))
 
-abbrev pub placed_build : Room → ℕ → ℕ → ℕ → Placed → Build
-placed_build room k bits spans (stops why) = Refused why
+abbrev pub placed_build : Room → ℕ → ℕ → ℕ → Placed → Result Built Refusal
+placed_build room k bits spans (stops why) = Err why
 placed_build room k bits spans (holds stored) = room_for room k bits spans
 
 -- the build of a row: whether bank 0 is closed, the row's visits, the fill's length, the room, and pass K
-abbrev pub build_row : Bool → List Visit → ℕ → Room → ℕ → Build
+abbrev pub build_row : Bool → List Visit → ℕ → Room → ℕ → Result Built Refusal
 build_row closed vs fill room k =
     placed_build room k (length_of fill (items_of vs)) (length (spans_of vs)) (placed_all closed vs)
 
@@ -103,14 +101,14 @@ closed_of b = closes_default b.banks.len b.choices.closed
 abbrev pub fill_of : Input → ℕ
 fill_of b = fill_by b.choices.fill (banks_of b.banks)
 
-abbrev pub settled_build : Input → Room → ℕ → Settled → Build
-settled_build b room passes (Unsettled why) = Refused why
-settled_build b room passes (At k) = build_row (closed_of b) (visits_of b passes) (fill_of b) room k
+abbrev pub settled_build : Input → Room → ℕ → Result ℕ Refusal → Result Built Refusal
+settled_build b room passes (Err why) = Err why
+settled_build b room passes (Ok k) = build_row (closed_of b) (visits_of b passes) (fill_of b) room k
 
 abbrev pub passes_of : Input → ℕ
 passes_of b = (layout_of b.banks b.lists b.choices).passes
 
-abbrev pub settled_of : Input → Settled
+abbrev pub settled_of : Input → Result ℕ Refusal
 settled_of b = (layout_of b.banks b.lists b.choices).settled
 
 -- The answer: K, the passes run, the image's length and the number of spans, or one refusal, with the passes run; and each bank's padding.
@@ -125,9 +123,9 @@ pub record Figures : Type 0 where
   pub length : ℕ
   pub spans : ℕ
 
-abbrev pub told_build : Build → Told Figures
-told_build (Done k bits spans) = gives (record { k = k; length = bits; spans = spans })
-told_build (Refused why) = told_refusal why
+abbrev pub told_build : Result Built Refusal → Told Figures
+told_build (Ok ended) = gives (record { k = ended.k; length = ended.length; spans = ended.spans })
+told_build (Err why) = told_refusal why
 
 -- "14: a lent output is too short: image 0, spans 1"
 abbrev pub room_told : Room → ℕ → ℕ → ℕ → Told Figures
@@ -140,9 +138,9 @@ abbrev pub placed_told : Room → ℕ → ℕ → ℕ → Placed → Told Figure
 placed_told room k bits spans (stops why) = told_refusal why
 placed_told room k bits spans (holds stored) = room_told room k bits spans
 
-abbrev pub settled_told : Input → Room → Settled → Told Figures
-settled_told b room (Unsettled why) = told_refusal why
-settled_told b room (At k) =
+abbrev pub settled_told : Input → Room → Result ℕ Refusal → Told Figures
+settled_told b room (Err why) = told_refusal why
+settled_told b room (Ok k) =
     placed_told room k (length_of (fill_of b) (items_of (visits_of b (passes_of b)))) (length (spans_of (visits_of b (passes_of b))))
     (placed_all (closed_of b) (visits_of b (passes_of b)))
 
@@ -159,9 +157,9 @@ filled blank vs values old =
     }
 
 -- "Each refusal .. changes nothing lent."
-abbrev pub left_by : Bankdefs → List Visit → List ℕ → Lent → Build → Lent
-left_by banks vs values old (Done k bits spans) = filled (blank_of (banks_of banks) bits (length old.image)) vs values old
-left_by banks vs values old (Refused why) = old
+abbrev pub left_by : Bankdefs → List Visit → List ℕ → Lent → Result Built Refusal → Lent
+left_by banks vs values old (Ok ended) = filled (blank_of (banks_of banks) ended.length (length old.image)) vs values old
+left_by banks vs values old (Err why) = old
 
 -- ---- the contract
 

@@ -1,15 +1,11 @@
 -- Refusals 9 to 13, each with what it is given for exactly: "The build walks the nodes and tries 9, 10, 11, 12, 13 at each."
-use Rattle.std.specs.Prelude.{◌≡◌, Bool, true, false, ◌&&◌, List, ◌⊎◌, ℕ, suc, ◌+◌, ◌≤◌, ◌<◌}
+use Rattle.std.specs.Prelude.{◌≡◌, Bool, true, false, ◌&&◌, List, ◌⊎◌, ℕ, suc, ◌+◌, ◌≤◌, ◌<◌, Ok, Some, None, Err}
 use Rattle.prelude.specs.Told.{refuses}
 use Rattle.prelude.specs.declared.Refusal.{Refusal}
 use Rattle.prelude.specs.declared.Refusal.TheVariants.{DefaultBank, PastBank, NoOutput}
 use Rattle.prelude.specs.declared.Place.{Place}
-use Rattle.prelude.specs.declared.Verdict.TheVariants.{Refused as TurnedAway}
-use Rattle.prelude.specs.declared.Opt.TheVariants.{None, Some}
 use Rattle.iter.specs.declared.Pos.{Pos}
-use Rattle.iter.specs.declared.Moved.TheVariants.{To}
 use Rattle.nodes.specs.Kinds.{size_of}
-use Rattle.resolver.specs.declared.Settled.TheVariants.{At}
 use Rattle.overlap_checker.specs.declared.Entry.{Entry}
 use Rattle.overlap_checker.specs.State.{State}
 use Rattle.build_visits.specs.declared.Visit.{Visit}
@@ -25,12 +21,12 @@ use Rattle.output.specs.Calls.{Call, nodes_in, closed_in, visit_in, visits_befor
 -- The passes settled, every node before n was accepted, and the walk reaches n.
 pub record Reaches (c : Call) (n : ℕ) : Type 0 where
   pub k : ℕ
-  pub settled : settled_of c.given ≡ At k
+  pub settled : settled_of c.given ≡ Ok k
   pub listed : n < nodes_in c
   pub stored : State
   pub before : placed_all (closed_in c) (visits_before c n) ≡ holds stored
   pub at : Pos
-  pub sees : (visit_in c n).seen ≡ To at
+  pub sees : (visit_in c n).seen ≡ Ok at
 
 -- The build is refused at node n, with a number and a place.
 pub record RefusedThere (c : Call) (n number : ℕ) (place : Place) : Type 0 where
@@ -75,7 +71,7 @@ pub data Cause (closed : Bool) (s : State) (v : Visit) (at : Pos) (why : Refusal
   eleven : is_placed v.node ≡ true → uses_default closed v.bank ≡ false → ends_past v.def.size (at.position + size_of v.node) ≡ false
       → (is_written v.node && lacks_output v.out) ≡ true → why ≡ NoOutput v.node.index → Cause closed s v at why
   store : is_placed v.node ≡ true → uses_default closed v.bank ≡ false → ends_past v.def.size (at.position + size_of v.node) ≡ false
-      → (is_written v.node && lacks_output v.out) ≡ false → answered s v.node.index (offer_of v) ≡ TurnedAway why → Cause closed s v at why
+      → (is_written v.node && lacks_output v.out) ≡ false → answered s v.node.index (offer_of v) ≡ Err why → Cause closed s v at why
 
 -- the offers of the nodes before node n
 abbrev pub offers_before : Call → ℕ → List Entry

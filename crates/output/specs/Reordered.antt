@@ -3,7 +3,7 @@
 -- stand where they stand: an item is its place in the output, its size and its starting bit. Moving lines of a layout can move positions, and
 -- then the items are others.
 use Rattle.std.specs.Prelude.{List, [], ◌∷◌, ℕ}
-use Rattle.prelude.specs.declared.Verdict.TheVariants.{Accepted as Yes}
+use Rattle.prelude.specs.Verdict.{Accepted}
 use Rattle.bitvec.specs.Written.{Writes}
 use Rattle.build_visits.specs.Items.{Item}
 
@@ -12,5 +12,5 @@ use Rattle.build_visits.specs.Items.{Item}
 -- Calls that were all accepted, by the contract of the call that writes one item: the image before, the items in turn, the image afterwards.
 pub data WrittenInTurn (values : List ℕ) : List ℕ → List Item → List ℕ → Type 0 where
   none_left : {image : List ℕ} → WrittenInTurn values image [] image
-  one_then : {image next last : List ℕ} {x : Item} {l : List Item} → Writes image x.at values x.from x.size Yes next
+  one_then : {image next last : List ℕ} {x : Item} {l : List Item} → Writes image x.at values x.from x.size Accepted next
       → WrittenInTurn values next l last → WrittenInTurn values image (x ∷ l) last

@@ -1,6 +1,5 @@
 -- Refusal 14, exactly: "a lent output is too short: image 0, spans 1". "14 comes last: image, then spans." And what a refused build leaves.
-use Rattle.std.specs.Prelude.{◌≡◌, ℕ, ◌*◌, ◌<◌, min, length}
-use Rattle.resolver.specs.declared.Settled.TheVariants.{At}
+use Rattle.std.specs.Prelude.{◌≡◌, ℕ, ◌*◌, ◌<◌, min, length, Ok}
 use Rattle.overlap_checker.specs.State.{State}
 use Rattle.build_visits.specs.Items.{length_of}
 use Rattle.build_plan.specs.Placing.{holds, placed_all}
@@ -10,7 +9,7 @@ use Rattle.output.specs.Calls.{Call, closed_in, visits_in, items_in, spans_in}
 -- The passes settled, and every node was accepted.
 pub record AllPlaced (c : Call) : Type 0 where
   pub k : ℕ
-  pub settled : settled_of c.given ≡ At k
+  pub settled : settled_of c.given ≡ Ok k
   pub stored : State
   pub placed : placed_all (closed_in c) (visits_in c) ≡ holds stored
 

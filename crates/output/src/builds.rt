@@ -13,20 +13,20 @@ ghost use Rattle.output.specs.Output.{input, lent, refused_after, Builds};
 ghost use Rattle.build_plan.specs.Plan.{max_end};
 ghost use Rattle.output.specs.Steps.{InValues, room_verdict, RowBuilt};
 
-use crate::{Build, Output};
+use crate::{Built, Output};
 use bankdef::Bankdefs;
 use build_plan::{closes_default, plan_row};
 use build_write::write_row;
 use iter::Lost;
-use prelude::{Refusal, Verdict};
-use resolver::{Choices, Settled};
+use prelude::Refusal;
+use resolver::Choices;
 
 // Whether an image of so many bytes has fewer bits. Whole bytes are compared, so that no product can wrap.
 fn lacks_bytes(bytes: u64, bits: u64) -> bool
     requires { bits ≤ max_end }
     ensures { result ≡ ltb (8 * bytes) bits }
 {
-    bytes < (bits + 7) / 8
+    bytes < bits.div_ceil(8)
 }
 
 // A refused build. It tells no bank's padding.
@@ -35,24 +35,24 @@ fn refused(why: Refusal, passes: u64) -> Output
 {
     let none = Lost { bits: 0, units: 0 };
     Output {
-        build: Build::Refused(why),
+        build: Err(why),
         passes,
         padding: [none; 16],
     }
 }
 
 // "14 comes last: image, then spans." Whether there is room, for the image in bytes and for the spans in places.
-fn room_for(bytes: u64, places: u64, bits: u64, spans: u64) -> Verdict
+fn room_for(bytes: u64, places: u64, bits: u64, spans: u64) -> Result<(), Refusal>
     requires { bits ≤ max_end }
     ensures { result ≡ room_verdict bytes places bits spans }
 {
     if lacks_bytes(bytes, bits) {
-        return Verdict::Refused(Refusal::TooShort(0));
+        return Err(Refusal::TooShort(0));
     }
     if places < spans {
-        return Verdict::Refused(Refusal::TooShort(1));
+        return Err(Refusal::TooShort(1));
     }
-    Verdict::Accepted
+    Ok(())
 }
 
 // The build over the row of the last pass.
@@ -85,16 +85,13 @@ fn build_row(
     let fill = bankdef::fill_length(banks, choices.fill);
     let closed = closes_default(banks.len, choices.closed);
     let plan = plan_row(banks, kinds, operands, first, numbers, states, closed, fill);
-    let verdict = plan.verdict;
-    if let Verdict::Refused(why) = verdict {
+    if let Err(why) = plan.verdict {
         return refused(why, passes);
     }
     let length = plan.length;
     let spans = plan.spans;
-    let two = prelude::lesser(offsets.len() as u64, sizes.len() as u64);
-    let places = prelude::lesser(addresses.len() as u64, two);
-    let room = room_for(image.len() as u64, places, length, spans);
-    if let Verdict::Refused(why) = room {
+    let places = addresses.len().min(offsets.len().min(sizes.len()));
+    if let Err(why) = room_for(image.len() as u64, places as u64, length, spans) {
         return refused(why, passes);
     }
     write_row(
@@ -103,7 +100,7 @@ fn build_row(
     );
     let padding = plan.padding;
     Output {
-        build: Build::Done { k, length, spans },
+        build: Ok(Built { k, length, spans }),
         passes,
         padding,
     }
@@ -115,11 +112,7 @@ pub fn row_start(rows: u64, passes: u64, n: usize) -> usize
     ensures value { result ≡ (min passes rows - 1) * n }
     ensures n_bound { result + n ≤ rows * n }
 {
-    let last = prelude::lesser(passes, rows);
-    if last == 0 {
-        return 0;
-    }
-    ((last - 1) as usize) * n
+    (passes.min(rows).saturating_sub(1) as usize) * n
 }
 
 // The build: the answer of document 01, and, accepted, the image and the spans. A refused build changes nothing that is lent.
@@ -147,11 +140,10 @@ pub fn build_output(
     let resolution = resolver::resolve(
         banks, kinds, operands, numbers, states, rows, values, choices,
     );
-    let settled = resolution.settled;
     let passes = resolution.passes;
-    match settled {
-        Settled::Refused(why) => refused(why, passes),
-        Settled::At(k) => {
+    match resolution.settled {
+        Err(why) => refused(why, passes),
+        Ok(k) => {
             let n = kinds.len();
             let a = row_start(rows, passes, n);
             let e = a + n;

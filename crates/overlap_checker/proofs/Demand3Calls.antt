@@ -4,7 +4,7 @@ use Rattle.std.specs.Prelude.{◌≡◌, ◌↔◌, ◌⊎◌, ℕ, ◌<◌, len
 use Rattle.std.proofs.Common.{ap, ◌∙◌}
 use mathlib.Core.List.{List, Permᴰ}
 use Rattle.prelude.specs.Limits.{max_stored}
-use Rattle.prelude.specs.declared.Verdict.{Verdict}
+use Rattle.prelude.specs.Verdict.{Verdict}
 use Rattle.overlap_checker.specs.declared.Entry.{Entry}
 use Rattle.overlap_checker.specs.Interval.{Within}
 use Rattle.overlap_checker.specs.Stored.{Proper}
@@ -24,7 +24,7 @@ use Rattle.overlap_checker.proofs.Demand3CallsLaws.{Turned, turned}
 
 module _ (a : Lent) (wide : length a.positions ≡ max_stored) (long : length a.sizes ≡ max_stored) (broad : length a.marks ≡ max_stored)
     (none : a.count ≡ 0) (bare : a.mark_count ≡ 0)
-    (es : List Entry) (vs : List Verdict) (b : Lent) (all : AllWithin es) (run : CallsInTurn a es vs b) where
+    (es : List Entry) (vs : List (Verdict)) (b : Lent) (all : AllWithin es) (run : CallsInTurn a es vs b) where
   went : Turned a es vs b
   went = turned a es vs b (sound_none a wide long broad none bare) all run
 

@@ -3,7 +3,7 @@ use Rattle.std.specs.Prelude.{◌≡◌, refl, List, [], ◌∷◌, ◌++◌, �
 use Rattle.std.proofs.Common.{sym, ap, ap₂, ◌∙◌, subst, arith, drop-drop}
 use mathlib.Core.List.Memᴰ
 use Rattle.std.proofs.Math.Seq.{drop-append-add}
-use Rattle.prelude.specs.declared.Verdict.{Verdict}
+use Rattle.prelude.specs.Verdict.{Verdict}
 use Rattle.overlap_checker.specs.declared.Entry.{Entry}
 use Rattle.overlap_checker.specs.State.{State, after}
 use Rattle.overlap_checker.specs.Lent.{Lent, lent, state_in, Sound, laid, starts, lengths, laid_into}
@@ -40,12 +40,12 @@ laid-into-over a s t g =
 
 -- ---- calls in turn are the fold
 
-pub record Turned (a : Lent) (es : List Entry) (vs : List Verdict) (b : Lent) : Type 0 where
+pub record Turned (a : Lent) (es : List Entry) (vs : List (Verdict)) (b : Lent) : Type 0 where
   pub answered : vs ≡ answers (state_in a) es
   pub left : b ≡ laid_into a (state_after (state_in a) es)
   pub sound : Sound b
 
-pub turned : (a : Lent) (es : List Entry) (vs : List Verdict) (b : Lent) → Sound a → AllWithin es → CallsInTurn a es vs b → Turned a es vs b
+pub turned : (a : Lent) (es : List Entry) (vs : List (Verdict)) (b : Lent) → Sound a → AllWithin es → CallsInTurn a es vs b → Turned a es vs b
 unfolding answers state_after
 turned a [] [] b s all run =
     record { answered = refl; left = run ∙ sym (laid-again a s); sound = subst Sound (sym run) s }
@@ -58,7 +58,7 @@ turned a (e ∷ es) (v ∷ vs) b s all run =
     let rest = turned c es vs b (sound-after a e 0 v c s made within) (λ f m. all f (Memᴰ.tail m)) run.2 in
     let state = state-after a e 0 v c s made in
     record {
-      answered = ap₂ (λ (w : Verdict) (l : List Verdict). w ∷ l) made.verdict (rest.answered ∙ ap (λ (t : State). answers t es) state);
+      answered = ap₂ (λ (w : Verdict) (l : List (Verdict)). w ∷ l) made.verdict (rest.answered ∙ ap (λ (t : State). answers t es) state);
       left =
           rest.left
           ∙ ap₂ (λ (l : Lent) (t : State). laid_into l (state_after t es)) (left_is a e 0 v c s made) state

@@ -1,10 +1,9 @@
 -- Going on from offer to offer: a sound store is sound after every offer within the limits, and holds what the definition says. With these a
 -- caller makes every offer by the way that does not check the whole store again.
-use Rattle.std.specs.Prelude.{◌≡◌, ℕ, length}
+use Rattle.std.specs.Prelude.{◌≡◌, ℕ, length, Err}
 use Rattle.std.proofs.Common.{sym, ap, ◌∙◌, subst, arith}
 use Rattle.prelude.specs.Limits.{max_stored}
-use Rattle.prelude.specs.declared.Verdict.{Verdict}
-use Rattle.prelude.specs.declared.Verdict.TheVariants.{Accepted, Refused}
+use Rattle.prelude.specs.Verdict.{Verdict, Accepted}
 use Rattle.overlap_checker.specs.declared.Entry.{Entry}
 use Rattle.overlap_checker.specs.Interval.{Within}
 use Rattle.overlap_checker.specs.Stored.{first_fault}
@@ -26,7 +25,7 @@ module _ (a : Lent) (e : Entry) (node : ℕ) (v : Verdict) (b : Lent) (s : Sound
       go : (w : Verdict) → w ≡ answer (state_in a) e node → b ≡ leaving w (laid_into a (after (state_in a) e)) a
           → b ≡ laid_into a (after (state_in a) e)
       go Accepted is left = left
-      go (Refused why) is left = left ∙ sym (ap (laid_into a) (refused-keeps (state_in a) e node why (sym is)) ∙ laid-again a s)
+      go (Err why) is left = left ∙ sym (ap (laid_into a) (refused-keeps (state_in a) e node why (sym is)) ∙ laid-again a s)
 
   -- It holds the state after the offer.
   pub state-after : state_in b ≡ after (state_in a) e

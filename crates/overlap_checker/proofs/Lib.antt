@@ -3,6 +3,7 @@ pub mod Demand3Calls
 pub mod Demand3CallsLaws
 pub mod Demand3Laws
 pub mod Exchange
+pub mod Finding
 pub mod Going
 pub mod GoingLaws
 pub mod Insertion

@@ -1,8 +1,8 @@
 -- Theorems about what Reordered defines.
 use Rattle.std.specs.Prelude.{◌≡◌}
 use Rattle.std.proofs.Common.{sym, ap, ◌∙◌, subst}
+use Rattle.prelude.specs.Verdict.{Verdict}
 use mathlib.Core.List.{List, Permᴰ}
-use Rattle.prelude.specs.declared.Verdict.{Verdict}
 use Rattle.overlap_checker.specs.declared.Entry.{Entry}
 use Rattle.overlap_checker.specs.State.{State, empty_state}
 use Rattle.overlap_checker.specs.Lent.{Lent, held, held_marks, state_in, laid_into}
@@ -24,8 +24,8 @@ module _ (xs ys : List Entry) (order : Permᴰ xs ys) (all : AllWithin xs) (whol
 
 -- Calls xs from a to b, all answered yes; calls ys, a reordering, from c to d.
 module _ (xs ys : List Entry) (order : Permᴰ xs ys) (all : AllWithin xs)
-    (a : Lent) (none : HoldsNothing a) (vs : List Verdict) (b : Lent) (run : CallsInTurn a xs vs b) (whole : AllAccepted vs)
-    (c : Lent) (bare : HoldsNothing c) (ws : List Verdict) (d : Lent) (again : CallsInTurn c ys ws d) where
+    (a : Lent) (none : HoldsNothing a) (vs : List (Verdict)) (b : Lent) (run : CallsInTurn a xs vs b) (whole : AllAccepted vs)
+    (c : Lent) (bare : HoldsNothing c) (ws : List (Verdict)) (d : Lent) (again : CallsInTurn c ys ws d) where
   first : AllAccepted (answers empty_state xs)
   first = subst AllAccepted (said a none xs vs b all run) whole
 

@@ -1,10 +1,9 @@
 -- Laws that Theorems/Reordered rests on.
 use Rattle.std.specs.Prelude.{◌≡◌, refl}
 use Rattle.std.proofs.Common.{sym, ap, ◌∙◌, subst, ⊎_elim}
+use Rattle.prelude.specs.Verdict.{Accepted, Verdict}
 use mathlib.Core.List.Memᴰ
 use mathlib.Core.List.{List, ◌∷◌, Permᴰ}
-use Rattle.prelude.specs.declared.Verdict.{Verdict}
-use Rattle.prelude.specs.declared.Verdict.TheVariants.{Accepted}
 use Rattle.overlap_checker.specs.declared.Entry.{Entry}
 use Rattle.overlap_checker.specs.State.{State, empty_state, answer, after}
 use Rattle.overlap_checker.specs.Lent.{Lent, state_in, laid_into}
@@ -65,7 +64,7 @@ alike (Permᴰ.trans p q) s all fits whole =
     record { whole = two.whole; same = two.same ∙ one.same }
 
 -- calls in turn are the fold
-module _ (a : Lent) (none : HoldsNothing a) (es : List Entry) (vs : List Verdict) (b : Lent) (all : AllWithin es) (run : CallsInTurn a es vs b) where
+module _ (a : Lent) (none : HoldsNothing a) (es : List Entry) (vs : List (Verdict)) (b : Lent) (all : AllWithin es) (run : CallsInTurn a es vs b) where
   pub said : vs ≡ answers empty_state es
   said = calls.answers-are a none.positions none.sizes none.marks none.count none.mark_count es vs b all run
 

@@ -1,12 +1,11 @@
 -- Laws that proofs about WhatIsStored need.
-use Rattle.std.specs.Prelude.{◌≡◌, refl, true, false, ℕ, ◌<◌, ltb}
+use Rattle.std.specs.Prelude.{◌≡◌, refl, true, false, ℕ, ◌<◌, ltb, Err}
 use Rattle.std.proofs.Common.{sym, ◌∙◌, ap, arith, lt-ltb, le-ltb, ltb-false}
 use Rattle.std.proofs.Math.Logic.{⊎_elim}
 use mathlib.Core.List.Memᴰ
 use mathlib.Core.List.{List, [], ◌∷◌, ◌++◌, Memᴰ, Permᴰ}
 use Rattle.prelude.specs.Pick.{pick}
-use Rattle.prelude.specs.declared.Verdict.{Verdict}
-use Rattle.prelude.specs.declared.Verdict.TheVariants.{Accepted, Refused}
+use Rattle.prelude.specs.Verdict.{Verdict, Accepted}
 use Rattle.overlap_checker.specs.declared.Entry.{Entry}
 use Rattle.overlap_checker.specs.State.{State, empty_state, answer, is_accepted, keeping, after}
 use Rattle.overlap_checker.specs.Folds.{state_after, answers, accepted_by, accepted, nonzero, empties}
@@ -27,7 +26,7 @@ module _ (s : State) (e : Entry) (later : List Entry) (t : List ℕ) where
       (mathlib.Core.List.Permᴰ.trans (mathlib.Core.List.Permᴰ.append_left (empties later) (one-more-mark s.marks e.position))
       (mathlib.Core.List.Permᴰ.middle e.position (empties later) s.marks))))
       (told (ltb 0 e.size))
-  mark-step (Refused why) is p = rw (refused-keeps s e 0 why is) at p
+  mark-step (Err why) is p = rw (refused-keeps s e 0 why is) at p
 
 module _ (s : State) (e : Entry) (later t : List Entry) where
   step : (v : Verdict) → answer s e 0 ≡ v → Permᴰ t (nonzero later ++ (after s e).intervals)
@@ -42,7 +41,7 @@ module _ (s : State) (e : Entry) (later t : List Entry) where
       (mathlib.Core.List.Permᴰ.middle e (nonzero later) s.intervals))))
       (λ none. rw none (rw none at q))
       (told (ltb 0 e.size))
-  step (Refused why) is p = rw (refused-keeps s e 0 why is) at p
+  step (Err why) is p = rw (refused-keeps s e 0 why is) at p
 
 -- ---- any list of offers
 

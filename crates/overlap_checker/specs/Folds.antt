@@ -4,7 +4,7 @@ use mathlib.Core.List.{List, [], ◌∷◌, Memᴰ}
 use Rattle.prelude.specs.Pick.{pick}
 use Rattle.prelude.specs.Told.{refuses, told_verdict}
 use Rattle.prelude.specs.declared.Place.{Place}
-use Rattle.prelude.specs.declared.Verdict.{Verdict}
+use Rattle.prelude.specs.Verdict.{Verdict}
 use Rattle.overlap_checker.specs.declared.Entry.{Entry}
 use Rattle.overlap_checker.specs.Interval.{Covers, StrictlyInside, Within}
 use Rattle.overlap_checker.specs.Lent.{Lent, Calls}
@@ -16,12 +16,12 @@ state_after s [] = s
 state_after s (e ∷ es) = state_after (after s e) es
 
 -- what each of them is answered
-unfoldable pub answers : State → List Entry → List Verdict
+unfoldable pub answers : State → List Entry → List (Verdict)
 answers s [] = []
 answers s (e ∷ es) = answer s e 0 ∷ answers (after s e) es
 
 -- those of a list of offers that were accepted, by their answers
-unfoldable pub accepted_by : List Entry → List Verdict → List Entry
+unfoldable pub accepted_by : List Entry → List (Verdict) → List Entry
 accepted_by [] vs = []
 accepted_by (e ∷ es) [] = []
 accepted_by (e ∷ es) (v ∷ vs) = pick (is_accepted v) (e ∷ accepted_by es vs) (accepted_by es vs)
@@ -60,7 +60,7 @@ abbrev pub RefusedBy : ℕ → Verdict → Type 0
 RefusedBy number v = (place : Place) × (told_verdict v ≡ refuses number place)
 
 -- Calls of `check_and_insert` one after another, each on what the one before it left: from a to b, the offers and their answers.
-abbrev pub CallsInTurn : Lent → List Entry → List Verdict → Lent → Type 0
+abbrev pub CallsInTurn : Lent → List Entry → List (Verdict) → Lent → Type 0
 CallsInTurn a [] [] b = b ≡ a
 CallsInTurn a [] (v ∷ vs) b = ⊥
 CallsInTurn a (e ∷ es) [] b = ⊥

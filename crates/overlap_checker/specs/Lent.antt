@@ -1,14 +1,13 @@
 -- The store as it is lent: two arrays, positions and sizes, and a count; an array of marks, and theirs. What they hold, when that is sound, and
 -- what a call leaves there.
-use Rattle.std.specs.Prelude.{◌≡◌, ◌||◌, List, [], ◌∷◌, ◌++◌, map, ℕ, ◌+◌, ◌≤◌, ltb, length, take, drop}
+use Rattle.std.specs.Prelude.{◌≡◌, ◌||◌, List, [], ◌∷◌, ◌++◌, map, ℕ, ◌+◌, ◌≤◌, ltb, length, take, drop, Err}
 use Rattle.prelude.specs.Limits.{max_stored}
 use Rattle.prelude.specs.Pick.{pick}
 use Rattle.prelude.specs.Told.{Told, refuses, Nothing, told_verdict}
 use Rattle.prelude.specs.declared.Place.TheVariants.{One}
 use Rattle.prelude.specs.declared.Refusal.TheVariants.{Malformed, BadStore}
-use Rattle.prelude.specs.declared.Verdict.{Verdict}
-use Rattle.prelude.specs.declared.Verdict.TheVariants.{Accepted, Refused}
 use Rattle.prelude.specs.declared.Refusal.{Refusal}
+use Rattle.prelude.specs.Verdict.{Verdict, Accepted}
 use Rattle.overlap_checker.specs.declared.Entry.{Entry}
 use Rattle.overlap_checker.specs.declared.Offered.{Offered}
 use Rattle.overlap_checker.specs.Interval.{interval, past_limits}
@@ -104,7 +103,7 @@ laid_into a s =
 -- "Each refusal .. changes nothing lent."
 abbrev pub leaving : {X : Type 0} → Verdict → X → X → X
 leaving Accepted new old = new
-leaving (Refused why) new old = old
+leaving (Err why) new old = old
 
 -- one of the arrays with a number put in at a place of the first `count`
 abbrev pub put_in : List ℕ → ℕ → ℕ → ℕ → List ℕ
@@ -115,7 +114,7 @@ abbrev pub answered_with : Verdict → ℕ → ℕ → Offered
 answered_with verdict count marks = record { verdict = verdict; count = count; marks = marks }
 
 abbrev pub refused_with : ℕ → ℕ → Refusal → Offered
-refused_with count marks why = answered_with (Refused why) count marks
+refused_with count marks why = answered_with (Err why) count marks
 
 -- ---- the two calls
 
@@ -135,7 +134,7 @@ checks a e bad malformed otherwise =
     (pick (past_limits e) malformed otherwise)))
 
 abbrev pub call_answer : Lent → Entry → Verdict
-call_answer a e = checks a e (λ (entry : ℕ). Refused (BadStore entry)) (Refused (Malformed 0)) (answer (state_in a) e 0)
+call_answer a e = checks a e (λ (entry : ℕ). Err (BadStore entry)) (Err (Malformed 0)) (answer (state_in a) e 0)
 
 abbrev pub call_figures : Lent → Entry → Told Nothing
 call_figures a e = checks a e (λ (entry : ℕ). refuses 15 (One entry)) (refuses 4 (One 0)) (figures (state_in a) e 0)

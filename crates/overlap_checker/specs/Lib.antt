@@ -9,6 +9,7 @@ pub mod Naming
 pub mod Offers
 pub mod Reordered
 pub mod Rising
+pub mod Seen
 pub mod State
 pub mod Stored
 pub mod WhatIsStored

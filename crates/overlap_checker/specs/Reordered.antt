@@ -2,12 +2,11 @@
 -- of what comes after it, and then other offers are made.
 use Rattle.std.specs.Prelude.{◌≡◌, List, [], ◌∷◌, length}
 use Rattle.prelude.specs.Limits.{max_stored}
-use Rattle.prelude.specs.declared.Verdict.{Verdict}
-use Rattle.prelude.specs.declared.Verdict.TheVariants.{Accepted}
+use Rattle.prelude.specs.Verdict.{Verdict, Accepted}
 use Rattle.overlap_checker.specs.Lent.{Lent}
 
 -- "accepted as a whole": every answer is yes
-abbrev pub AllAccepted : List Verdict → Type 0
+abbrev pub AllAccepted : List (Verdict) → Type 0
 AllAccepted [] = Unit {0}
 AllAccepted (v ∷ vs) = (v ≡ Accepted) × AllAccepted vs
 

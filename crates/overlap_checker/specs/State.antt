@@ -1,11 +1,10 @@
 -- The store without its arrays: what it holds, what it answers to an offer, and what it holds afterwards (document 01, "Store").
-use Rattle.std.specs.Prelude.{Bool, true, false, ◌||◌, List, [], ◌∷◌, ◌++◌, ℕ, ltb, length, take, drop}
+use Rattle.std.specs.Prelude.{Bool, true, false, ◌||◌, List, [], ◌∷◌, ◌++◌, ℕ, ltb, length, take, drop, Err}
 use Rattle.prelude.specs.Pick.{pick}
 use Rattle.prelude.specs.Told.{Told, gives, refuses, Nothing, nothing}
 use Rattle.prelude.specs.declared.Refusal.TheVariants.{Overlap, StoreFull}
 use Rattle.prelude.specs.declared.Place.TheVariants.{One, Two}
-use Rattle.prelude.specs.declared.Verdict.{Verdict}
-use Rattle.prelude.specs.declared.Verdict.TheVariants.{Accepted, Refused}
+use Rattle.prelude.specs.Verdict.{Verdict, Accepted}
 use Rattle.overlap_checker.specs.declared.Entry.{Entry}
 use Rattle.overlap_checker.specs.Interval.{interval}
 use Rattle.overlap_checker.specs.Offers.{place_for, clashes_any, named, lacks_room}
@@ -39,14 +38,14 @@ named_in s e = pick (clashes_any e s.intervals) (named s.intervals e) (interval 
 -- What an offer, made for a node, is answered: as the enum, and in document 01's figures. "12 the stored start and size" (a mark has size 0), "13 too in a
 -- build": the node.
 abbrev pub answer : State → Entry → ℕ → Verdict
-answer s e node = tries s e (Refused (Overlap (named_in s e).position (named_in s e).size)) (Refused (StoreFull node)) Accepted
+answer s e node = tries s e (Err (Overlap (named_in s e).position (named_in s e).size)) (Err (StoreFull node)) Accepted
 
 abbrev pub figures : State → Entry → ℕ → Told Nothing
 figures s e node = tries s e (refuses 12 (Two (named_in s e).position (named_in s e).size)) (refuses 13 (One node)) (gives nothing)
 
 abbrev pub is_accepted : Verdict → Bool
 is_accepted Accepted = true
-is_accepted (Refused why) = false
+is_accepted (Err why) = false
 
 -- something put into a list at a place
 abbrev pub put_at : {X : Type 0} → ℕ → X → List X → List X

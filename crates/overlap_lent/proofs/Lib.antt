@@ -1,3 +1,4 @@
 pub mod Many
 pub mod Surely
 pub mod Unique
+pub mod Pairs

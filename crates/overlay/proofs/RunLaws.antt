@@ -1,12 +1,18 @@
 -- Runs: what is passed over, what a turn of the loop takes, and where the bytes may be cut in two.
-use mathlib.Core.Path.{◌≡◌, refl, sym, ap, ◌∙◌, subst}
+use mathlib.Core.Path.{◌≡◌, refl, sym, ap, ap₂, ◌∙◌, subst}
 use mathlib.Core.Bool.{Bool, true, false, not}
 use mathlib.Core.List.{List, [], ◌∷◌, ◌++◌, append_assoc}
 use Prim.Native.Nat.{ℕ, zero, suc, ◌+◌, ◌-◌, ◌≤◌, ◌<◌}
 use native.Mathlib.Nat.{add-zero, zero-add, suc-add}
 use native.Mathlib.Decide.{dec_lt}
 use native.Mathlib.Omega.{arith}
-use lib.ListN.{length}
+use lib.Dec.{eqb}
+use lib.ListN.{length, get_or, drop}
+use Rattle.std.specs.List.{AllWithin, HoldsAt, between, zip}
+use Rattle.std.specs.Option.{MatchOption}
+use Rattle.std.proofs.Common.{Option, None, Some, unwrap_or}
+use Rattle.std.proofs.lemmas.List.{length-take, length-drop, get_or-take, get_or-drop}
+use Rattle.std.proofs.lemmas.Slice.Zip.{length-zip, get_or-zip}
 use Rattle.prelude.specs.Pick.{pick}
 use Rattle.blocks.specs.declared.Block.{Block}
 use Rattle.blocks.specs.Walk.{block, kept}
@@ -37,13 +43,22 @@ module _ (test : ℕ → Bool) where
       ∙ ap (λ (m : ℕ). i + m) (length-on i (to - (i + 1)) e ∙ ap (λ (m : ℕ). suc (length_from test m (to - (i + 1)))) s)
       ∙ omega arith
 
-  pub look_stop : (at to i : ℕ) → test i ≡ false → at + length_from test at (to - at) ≡ i + length_from test i (to - i)
-      → i ≡ at + length_from test at (to - at)
-  look_stop at to i e inv = sym (inv ∙ ap (λ (m : ℕ). i + m) (length-stop i (to - i) e) ∙ add-zero i)
+  length_none : (at : ℕ) → length_from test at zero ≡ 0
+  unfolding length_from
+  length_none at = refl
 
-  pub look-end : (at to i : ℕ) → at ≤ to → to ≤ i → at + length_from test at (to - at) ≡ i + length_from test i (to - i)
-      → to ≡ at + length_from test at (to - at)
-  look-end at to i k h inv = omega (arith, inv, length-le test at (to - at))
+  -- by the first place where it fails
+  length-found : (at n i : ℕ) → i ≤ n → ((k : ℕ) → k < i → test (at + k) ≡ true) → (i < n → test (at + i) ≡ false) → length_from test at n ≡ i
+  length-found at zero zero l h f = length_none at
+  length-found at zero (suc i) l h f = absurd (omega arith)
+  length-found at (suc n) zero l h f = length-stop at (suc n) (subst (λ (m : ℕ). test m ≡ false) (add-zero at) (f (omega arith)))
+  length-found at (suc n) (suc i) l h f =
+      let place : (k : ℕ) → at + suc k ≡ suc at + k = λ k. omega arith in
+      length-on at n (subst (λ (m : ℕ). test m ≡ true) (add-zero at) (h 0 (omega arith)))
+      ∙ ap suc
+      (length-found (suc at) n i (omega arith)
+      (λ k lt. subst (λ (m : ℕ). test m ≡ true) (place k) (h (suc k) (omega arith)))
+      (λ lt. subst (λ (m : ℕ). test m ≡ false) (place i) (f (omega arith))))
 
   -- ---- runs
 
@@ -149,6 +164,46 @@ module _ (test : ℕ → Bool) where
       (block at (length_from test at (suc k))) ++ (runs_from test (suc at) k (test at) ++ runs_from test m n false)) place
       ∙ sym (append_assoc (begun (test at) inside (block at (length_from test at (suc k)))) (runs_from test (suc at) k (test at))
       (runs_from test (at + suc k) n false))
+
+-- A search of the bytes from `from` to before `to` of two images for the first pair that is not alike, or not unlike.
+module _ (t : Bool → Bool) (u : Bool) (holds : t u ≡ true) (fails : t (not u) ≡ false) (o r : List ℕ) (from to : ℕ)
+    (low : from ≤ to) (ho : to ≤ length o) (hr : to ≤ length r) where
+  abbrev pairs : List (ℕ × ℕ)
+  pairs = zip (between from to o) (between from to r)
+
+  part : (xs : List ℕ) (k : ℕ) → k < to - from → get_or (between from to xs) k 0 ≡ get_or xs (from + k) 0
+  part xs k h = get_or-take (to - from) (drop from xs) k 0 h ∙ get_or-drop from xs k 0
+
+  part-length : (xs : List ℕ) → to ≤ length xs → length (between from to xs) ≡ to - from
+  part-length xs h = simp (length-take, length-drop) (omega arith)
+
+  long : length pairs ≡ to - from
+  long = omega (arith, length-zip (between from to o) (between from to r), part-length o ho, part-length r hr)
+
+  pair-at : (k : ℕ) → k < to - from → get_or pairs k (0, 0) ≡ (get_or o (from + k) 0, get_or r (from + k) 0)
+  pair-at k h =
+      get_or-zip (between from to o) (between from to r) k (0, 0) (omega (arith, part-length o ho)) (omega (arith, part-length r hr))
+      ∙ ap₂ (λ (x y : ℕ). (x, y)) (part o k h) (part r k h)
+
+  tested : (v : Bool) (k : ℕ) → k < to - from → eqb (get_or pairs k (0, 0)).0 (get_or pairs k (0, 0)).1 ≡ v
+      → t (eqb (get_or o (from + k) 0) (get_or r (from + k) 0)) ≡ t v
+  tested v k h e = ap t (subst (λ (x : ℕ × ℕ). eqb x.0 x.1 ≡ v) (pair-at k h) e)
+
+  pub place-found : (p : Option ℕ)
+      → MatchOption p (AllWithin (λ x. eqb x.0 x.1 ≡ u) pairs 0 (length pairs))
+      (λ i. (i < length pairs) × HoldsAt (λ x. eqb x.0 x.1 ≡ not u) pairs i × AllWithin (λ x. eqb x.0 x.1 ≡ u) pairs 0 i)
+      → unwrap_or p (to - from) ≡ length_from (λ x. t (eqb (get_or o x 0) (get_or r x 0))) from (to - from)
+  place-found None h =
+      sym
+      (length-found (λ x. t (eqb (get_or o x 0) (get_or r x 0))) from (to - from) (to - from) (omega arith)
+      (λ k l. tested u k l (h k (0, 0) (omega arith) (omega (arith, long))) ∙ holds)
+      (λ l. absurd (omega arith)))
+  place-found (Some i) h =
+      let few : i < to - from = omega (arith, h.0, long) in
+      sym
+      (length-found (λ x. t (eqb (get_or o x 0) (get_or r x 0))) from (to - from) i (omega arith)
+      (λ k l. tested u k (omega arith) (h.2 k (0, 0) (omega arith) l) ∙ holds)
+      (λ l. tested (not u) i few (h.1 (0, 0)) ∙ fails))
 
 -- Two tests that agree on the bytes have the same runs there.
 module _ (f g : ℕ → Bool) where

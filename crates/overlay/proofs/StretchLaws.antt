@@ -1,24 +1,21 @@
--- Stretches of bytes that agree: what a turn of the comparing loop adds, and a whole stretch passed over at once.
-use mathlib.Core.Path.{◌≡◌, sym, ap, ◌∙◌, subst}
-use mathlib.Core.Bool.{Bool, true, ◌&&◌, and-eq-true_iff}
+-- Stretches of bytes that agree: equal slices, and a whole stretch passed over at once.
+use mathlib.Core.Path.{◌≡◌, sym, ap, ◌∙◌}
+use mathlib.Core.Bool.{Bool, true}
 use mathlib.Core.List.{List}
 use Prim.Native.Nat.{ℕ, zero, suc, ◌+◌, ◌-◌, ◌≤◌, ◌<◌}
-use native.Mathlib.Decide.{dec_lt}
+use borrow.Author.Tests.{eq-eqb}
+use lib.ListN.{get_or, take, drop}
+use Rattle.std.proofs.lemmas.List.{get_or-take, get_or-drop}
 use native.Mathlib.Omega.{arith}
-use Rattle.overlay.specs.Runs.{agree, length_from, AgreeOn}
+use Rattle.overlay.specs.Runs.{length_from, AgreeOn}
 use Rattle.overlay.proofs.RunLaws.{look-on}
 
-pub agree-none : (o r : List ℕ) (at : ℕ) → AgreeOn o r at 0
-agree-none o r at x lo hi = absurd (omega arith)
-
-pub agree-more : (o r : List ℕ) (at j : ℕ) (ok res : Bool) → (ok ≡ true → AgreeOn o r at j) → res ≡ (ok && agree o r (at + j)) → res ≡ true
-    → AgreeOn o r at (j + 1)
-agree-more o r at j ok res h e t x lo hi =
-    let both = (and-eq-true_iff ok (agree o r (at + j))).0 (sym e ∙ t) in
-    elim (dec_lt x (at + j)) [
-      | yes l ↦ h both.0 x lo l
-      | no l ↦ subst (λ (y : ℕ). agree o r y ≡ true) (omega arith) both.1
-    ]
+-- slices that are equal agree at each byte
+pub stretch-agrees : (o r : List ℕ) (at m n : ℕ) → m ≡ n → take m (drop at o) ≡ take m (drop at r) → AgreeOn o r at n
+stretch-agrees o r at m n k e x lo hi =
+    let here : (xs : List ℕ) → get_or (take m (drop at xs)) (x - at) 0 ≡ get_or xs x 0 =
+    λ xs. get_or-take m (drop at xs) (x - at) 0 (omega arith) ∙ get_or-drop at xs (x - at) 0 ∙ ap (λ (j : ℕ). get_or xs j 0) (omega arith) in
+    eq-eqb (get_or o x 0) (get_or r x 0) (sym (here o) ∙ ap (λ (l : List ℕ). get_or l (x - at) 0) e ∙ here r)
 
 module _ (test : ℕ → Bool) where
   -- n bytes at which the test holds, passed over at once

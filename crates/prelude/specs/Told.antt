@@ -1,11 +1,10 @@
 -- What a caller is told, in document 01's figures. "If an answer is an enum, a definition tells you this paper's number and values for each
 -- of its cases. The promises use that definition." An answer enum of any crate is told by one function into `Told`.
-use Rattle.std.specs.Prelude.{ℕ}
+use Rattle.std.specs.Prelude.{ℕ, Err}
 use Rattle.prelude.specs.Refusals.{number_of, place_of}
 use Rattle.prelude.specs.declared.Refusal.{Refusal}
 use Rattle.prelude.specs.declared.Place.{Place}
-use Rattle.prelude.specs.declared.Verdict.{Verdict}
-use Rattle.prelude.specs.declared.Verdict.TheVariants.{Accepted, Refused}
+use Rattle.prelude.specs.Verdict.{Verdict, Accepted}
 
 -- An answer: the values of an accepted call; or a refusal's number and place.
 pub data Told {ℓ} (X : Type ℓ) : Type ℓ where
@@ -27,4 +26,4 @@ pub data Nothing : Type 0 where
 
 abbrev pub told_verdict : Verdict → Told Nothing
 told_verdict Accepted = gives nothing
-told_verdict (Refused r) = told_refusal r
+told_verdict (Err r) = told_refusal r

@@ -23,6 +23,7 @@ pub const MAX_STORED: u64 = 512;
 
 // "Kinds: 0 nothing, 1 bank switch, 2 label, 3 constant, 4 instruction, 5 data of declared size, 6 data of open size, 7 reserve, 8 align, 9 addr,
 // 10 assert."
+// stays: numbers of the lists that C lends, states too (the C interface); what a kind does is the enum `Doing` of crates/nodes
 pub const NOTHING: u8 = 0;
 
 pub const SWITCH: u8 = 1;
@@ -52,20 +53,6 @@ pub const STABLE: u8 = 1;
 
 pub const UNRESOLVED: u8 = 2;
 
-// A bank's number that may be absent: the Rust's `Option<usize>` in a bank.
-#[derive(Clone, Copy)]
-pub enum Opt {
-    None,
-    Some(u32),
-}
-
-// A position in the output, or none: the Rust's `Option<usize>` of a span.
-#[derive(Clone, Copy)]
-pub enum Offset {
-    None,
-    At(u64),
-}
-
 // Why a call was refused. A case carries its place; one that carries nothing has place 0.
 #[derive(Clone, Copy)]
 pub enum Refusal {
@@ -87,13 +74,6 @@ pub enum Refusal {
     PartlyCovered,
     FillBitDropped,
     OffProfile(u64, u64),
-}
-
-// Whether a call is refused, where nothing else is to be said.
-#[derive(Clone, Copy)]
-pub enum Verdict {
-    Accepted,
-    Refused(Refusal),
 }
 
 // A refusal's place: two banks, a stored start and size, a rule and its bank or node, or one number.
@@ -134,24 +114,23 @@ pub fn place_of(r: Refusal) -> Place
     ensures { result ≡ place_of r }
 {
     match r {
-        Refusal::BanksOverlap(a, b) => Place::Two(a, b),
-        Refusal::Overlap(start, size) => Place::Two(start, size),
-        Refusal::OffProfile(rule, at) => Place::Two(rule, at),
-        Refusal::BankNumber(p) => Place::One(p),
-        Refusal::Malformed(p) => Place::One(p),
-        Refusal::PositionPast(p) => Place::One(p),
-        Refusal::LabelOffBoundary(p) => Place::One(p),
-        Refusal::DefaultBank(p) => Place::One(p),
-        Refusal::PastBank(p) => Place::One(p),
-        Refusal::NoOutput(p) => Place::One(p),
-        Refusal::StoreFull(p) => Place::One(p),
-        Refusal::TooShort(p) => Place::One(p),
-        Refusal::BadStore(p) => Place::One(p),
-        Refusal::BankCount => Place::One(0),
-        Refusal::Unresolved => Place::One(0),
-        Refusal::BadPart => Place::One(0),
-        Refusal::PartlyCovered => Place::One(0),
-        Refusal::FillBitDropped => Place::One(0),
+        Refusal::BanksOverlap(a, b) | Refusal::Overlap(a, b) | Refusal::OffProfile(a, b) =>
+            Place::Two(a, b),
+        Refusal::BankNumber(p)
+        | Refusal::Malformed(p)
+        | Refusal::PositionPast(p)
+        | Refusal::LabelOffBoundary(p)
+        | Refusal::DefaultBank(p)
+        | Refusal::PastBank(p)
+        | Refusal::NoOutput(p)
+        | Refusal::StoreFull(p)
+        | Refusal::TooShort(p)
+        | Refusal::BadStore(p) => Place::One(p),
+        Refusal::BankCount
+        | Refusal::Unresolved
+        | Refusal::BadPart
+        | Refusal::PartlyCovered
+        | Refusal::FillBitDropped => Place::One(0),
     }
 }
 
@@ -159,21 +138,18 @@ pub fn place_of(r: Refusal) -> Place
 pub fn lesser(a: u64, b: u64) -> u64
     ensures { result ≡ min a b }
 {
-    if a < b { a } else { b }
+    a.min(b)
 }
 
 pub fn greater(a: u64, b: u64) -> u64
     ensures { result ≡ max a b }
 {
-    if a < b { b } else { a }
+    a.max(b)
 }
 
 // Both of two answers, without a branch in the loop that asks.
 pub fn both(a: bool, b: bool) -> bool
     ensures { result ≡ (a && b) }
 {
-    if a {
-        return b;
-    }
-    false
+    a & b
 }

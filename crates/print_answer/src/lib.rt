@@ -9,9 +9,8 @@ ghost use Rattle.print_text.specs.Lines.{layout_text};
 ghost use Rattle.print_text.specs.Puts.{Puts};
 ghost use Rattle.print_answer.specs.Answer.{image_room, done_text, Fitting, answered};
 
-use blocks::Blocks;
-use output::Build;
-use print_text::Written;
+use output::Built;
+use prelude::Refusal;
 
 // The lines of a layout whose blocks are found. The room lent for the hex digits suffices.
 fn put_lines(
@@ -23,7 +22,7 @@ fn put_lines(
     count: u64,
     hex: &mut [u8],
     out: &mut [u8],
-) -> Written
+) -> Option<usize>
     requires bits_bound { bits ≤ 8 * length image.now }
     requires bits_bound_2 { bits ≤ 8 * image_room }
     requires bits_in_bounds { digit_count bits ≤ length hex.old }
@@ -31,7 +30,7 @@ fn put_lines(
         (layout_text k count block_offsets.now block_sizes.now (hex_of image.now bits))
         out.old 0 result out.new }
 {
-    bitvec::write_hex(image, bits, hex);
+    let _ = bitvec::write_hex(image, bits, hex);
     let digits = ((bits + 3) / 4) as usize;
     print_text::put_layout(
         out,
@@ -55,7 +54,7 @@ fn put_done(
     block_sizes: &mut [u64],
     hex: &mut [u8],
     out: &mut [u8],
-) -> Written
+) -> Option<usize>
     requires bits_bound { bits ≤ 8 * length image.now }
     requires bits_bound_2 { bits ≤ 8 * image_room }
     requires bits_in_bounds { digit_count bits ≤ length hex.old }
@@ -66,17 +65,8 @@ fn put_done(
 {
     let found = blocks::get_blocks(offsets, sizes, block_offsets, block_sizes);
     match found {
-        Blocks::Refused(why) => print_text::put_refusal(out, 0, why),
-        Blocks::Found(count) => put_lines(
-            k,
-            bits,
-            image,
-            block_offsets,
-            block_sizes,
-            count,
-            hex,
-            out,
-        ),
+        Err(why) => print_text::put_refusal(out, 0, why),
+        Ok(count) => put_lines(k, bits, image, block_offsets, block_sizes, count, hex, out),
     }
 }
 
@@ -88,7 +78,7 @@ fn put_accepted(
     sizes: &[u64],
     image: &[u8],
     out: &mut [u8],
-) -> Written
+) -> Option<usize>
     requires bits_bound { bits ≤ 8 * length image.now }
     requires bits_bound_2 { bits ≤ 8 * image_room }
     requires sizes_value { acceptable offsets.now sizes.now ≡ true }
@@ -112,18 +102,18 @@ fn put_accepted(
 
 // The text of a build's answer, whose image and spans stand in what is lent.
 pub fn put_answer(
-    build: Build,
+    build: Result<Built, Refusal>,
     image: &[u8],
     offsets: &[u64],
     sizes: &[u64],
     out: &mut [u8],
-) -> Written
+) -> Option<usize>
     requires { Fitting build image.now offsets.now sizes.now }
     ensures { Puts (answered build image.now offsets.now sizes.now) out.old 0 result out.new }
 {
     match build {
-        Build::Refused(why) => print_text::put_refusal(out, 0, why),
-        Build::Done { k, length, spans } => {
+        Err(why) => print_text::put_refusal(out, 0, why),
+        Ok(Built { k, length, spans }) => {
             let n = spans as usize;
             put_accepted(k, length, &offsets[..n], &sizes[..n], image, out)
         }

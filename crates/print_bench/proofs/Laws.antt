@@ -1,22 +1,21 @@
 -- Laws of text that is written piece by piece, of the hex of bytes in a part of a buffer, and of a byte that no block holds.
+use Rattle.std.specs.Prelude.{Ok, Err, Result}
 use mathlib.Core.Path.{◌≡◌, refl, sym, ap, ap₂, subst, ◌∙◌}
 use mathlib.Core.Bool.{true}
 use mathlib.Core.List.{List, [], ◌∷◌, ◌++◌, append-nil, append_assoc}
-use Prim.Native.Nat.{ℕ, ◌+◌, ◌-◌, ◌*◌, ◌/◌, ◌≤◌, ◌<◌}
+use Prim.Native.Nat.{ℕ, ◌+◌, ◌-◌, ◌*◌, ◌/◌, ◌≤◌, ◌<◌, min}
 use native.Mathlib.Numerals.{add-one}
 use native.Mathlib.Omega.{arith}
-use borrow.Author.Tests.{le-leb, lt-ltb, le-ltb, eq-eqb, ne_eqb}
+use borrow.Author.Tests.{le-leb, lt-ltb, le-ltb, eq-eqb, ne_eqb, leb-true, leb-false}
 use lib.Dec.{leb}
 use lib.ListN.{length, take, drop, get_or, length-append, length-drop, drop_of_length-le}
 use lib.Seq.{sets, sets-eq, length-sets, take_all, drop-drop, drop-cons, length-take-le}
-use Rattle.prelude.specs.Laws.Bools.{unlike}
+use Rattle.prelude.specs.Laws.Bools.{unlike, either}
 use Rattle.prelude.specs.Laws.Pick.{pick_true, pick-false}
 use Rattle.prelude.specs.declared.Refusal.{Refusal}
 use Rattle.prelude.specs.declared.Refusal.TheVariants.{BadPart}
 use Rattle.bitvec.specs.HexDigits.{digit_count, hex_of, Prints}
 use Rattle.bitvec.specs.Theorems.HexDigits.{length-hex_of}
-use Rattle.bitvec.specs.declared.Hex.{Hex}
-use Rattle.bitvec.specs.declared.Hex.TheVariants.{Digits, Refused}
 use Rattle.overlay.specs.Range.{source_of}
 use Rattle.overlay.specs.Trial.{Trial}
 use Rattle.overlay.specs.declared.Source.{Source}
@@ -87,14 +86,14 @@ length-field bytes =
     let n = length bytes in
     omega (arith, length-append (ascii " ") (hex_of bytes (8 * n)), length-hex_of bytes (8 * n))
 
-never : {m : ℕ} {why : Refusal} → Digits m ≡ Refused why → ⊥
+never : {m : ℕ} {why : Refusal} → Ok m ≡ Err why → ⊥
 never e = unlike cc
 
-same_count : {m n : ℕ} → Digits m ≡ Digits n → m ≡ n
+same_count : {m n : ℕ} → ◌≡◌ {A = Result ℕ Refusal} (Ok m) (Ok n) → m ≡ n
 same_count e = cc
 
 -- the digits go into the part of a buffer from a place on, which is put back
-module _ (bytes mid : List ℕ) (from : ℕ) (room : from + 2 * length bytes ≤ length mid) (r : Hex) (after : List ℕ)
+module _ (bytes mid : List ℕ) (from : ℕ) (room : from + 2 * length bytes ≤ length mid) (r : Result ℕ Refusal) (after : List ℕ)
     (p : Prints bytes (8 * length bytes) (take (length mid - from) (drop from mid)) r after) where
   abbrev n : ℕ
   n = length bytes
@@ -117,19 +116,19 @@ module _ (bytes mid : List ℕ) (from : ℕ) (room : from + 2 * length bytes ≤
   fits : leb (digit_count (8 * n)) (length rest) ≡ true
   fits = le-leb (digit_count (8 * n)) (length rest) (omega (arith, length-drop from mid))
 
-  printed : r ≡ Digits (digit_count (8 * n))
+  printed : r ≡ Ok (digit_count (8 * n))
   printed = p.answer ∙ rw (whole, inside, fits) refl
 
-  pub hex-count : {m : ℕ} → r ≡ Digits m → m ≡ 2 * n
+  pub hex-count : {m : ℕ} → r ≡ Ok m → m ≡ 2 * n
   hex-count e = same_count (sym e ∙ printed) ∙ two
 
-  pub hex-never : {why : Refusal} → r ≡ Refused why → ⊥
+  pub hex-never : {why : Refusal} → r ≡ Err why → ⊥
   hex-never e = never (sym printed ∙ e)
 
   digits : after ≡ hex_of bytes (8 * n) ++ drop (digit_count (8 * n)) rest
   digits = p.digits ∙ rw (whole, inside, fits) refl
 
-  pub hex-writes : {m : ℕ} → r ≡ Digits m → Writes (hex_of bytes (8 * n)) mid from (from + m) (take from mid ++ (after ++ drop (length mid - from) rest))
+  pub hex-writes : {m : ℕ} → r ≡ Ok m → Writes (hex_of bytes (8 * n)) mid from (from + m) (take from mid ++ (after ++ drop (length mid - from) rest))
   hex-writes {m} e =
       let text = hex_of bytes (8 * n) in
       let long : length text ≡ digit_count (8 * n) = length-hex_of bytes (8 * n) in
@@ -210,17 +209,18 @@ pub free_on : (os ss : List ℕ) (i at : ℕ) → i < length os → i < length s
 unfolding free_from
 free_on os ss i at h k = rw (add-one i, drop-cons os i 0 h, drop-cons ss i 0 k)
 
-pub free-end : (os ss : List ℕ) (i at : ℕ) → length os ≤ i → free_from (drop i os) (drop i ss) at ≡ at
-unfolding free_from
-free-end os ss i at h = rw (drop_of_length-le os {i = i} h)
-
 free-short : (os : List ℕ) (at : ℕ) → free_from os [] at ≡ at
 unfolding free_from
 free-short [] at = refl
 free-short (o ∷ os) at = refl
 
-pub free-none : (os ss : List ℕ) (i at : ℕ) → length ss ≤ i → free_from (drop i os) (drop i ss) at ≡ at
-free-none os ss i at h = ap (λ (l : List ℕ). free_from (drop i os) l at) (drop_of_length-le ss {i = i} h) ∙ free-short (drop i os) at
+-- the shorter list ends the walk
+pub free-end : (os ss : List ℕ) (i at : ℕ) → i ≡ min (length os) (length ss) → free_from (drop i os) (drop i ss) at ≡ at
+unfolding free_from
+free-end os ss i at e =
+    either (leb (length os) (length ss)) (λ t. rw (drop_of_length-le os {i = i} (omega (arith, leb-true (length os) (length ss) t))))
+    (λ t. ap (λ (l : List ℕ). free_from (drop i os) l at) (drop_of_length-le ss {i = i} (omega (arith, leb-false (length os) (length ss) t)))
+    ∙ free-short (drop i os) at)
 
 -- ---- what is said of a range
 
@@ -233,16 +233,25 @@ unfolding alone_text
 alone-none load end first h = sym (pick-false _ _ (le-ltb first end h))
 
 module _ (load first count free lack : ℕ) (t : Trial) where
-  pub told-as : {s : Source} → s ≡ source_of t first count → ToldBy load first count free lack t s ≡ source_text load first count free lack t
+  pub told-as : {s : Result Source Refusal} → s ≡ source_of t first count → ToldBy load first count free lack t s ≡ source_text load first count free lack t
   unfolding source_text
   told-as e = ap (ToldBy load first count free lack t) e
 
 -- ---- a byte that only one of two files gives
 
+alone-short : (os₁ ss₁ os : List ℕ) (end : ℕ) → alone_in os₁ ss₁ os [] end ≡ end
+unfolding alone_in
+alone-short os₁ ss₁ [] end = refl
+alone-short os₁ ss₁ (o ∷ os) end = refl
+
 module _ (os₁ ss₁ os ss : List ℕ) (i end : ℕ) where
-  pub alone-end : length os ≤ i → alone_in os₁ ss₁ (drop i os) (drop i ss) end ≡ end
+  -- the shorter list ends the walk
+  pub alone-end : i ≡ min (length os) (length ss) → alone_in os₁ ss₁ (drop i os) (drop i ss) end ≡ end
   unfolding alone_in
-  alone-end h = rw (drop_of_length-le os {i = i} h)
+  alone-end e =
+      either (leb (length os) (length ss)) (λ t. rw (drop_of_length-le os {i = i} (omega (arith, leb-true (length os) (length ss) t))))
+      (λ t. ap (λ (l : List ℕ). alone_in os₁ ss₁ (drop i os) l end) (drop_of_length-le ss {i = i} (omega (arith, leb-false (length os) (length ss) t)))
+      ∙ alone-short os₁ ss₁ (drop i os) end)
 
   pub alone-here : i < length os → i < length ss → free_from os₁ ss₁ (get_or os i 0 / 8) < get_or os i 0 / 8 + get_or ss i 0 / 8
       → alone_in os₁ ss₁ (drop i os) (drop i ss) end ≡ free_from os₁ ss₁ (get_or os i 0 / 8)
@@ -257,15 +266,6 @@ module _ (os₁ ss₁ os ss : List ℕ) (i end : ℕ) where
   alone-on h k f =
       rw (add-one i, drop-cons os i 0 h, drop-cons ss i 0 k)
       (pick-false _ _ (le-ltb (free_from os₁ ss₁ (get_or os i 0 / 8)) (get_or os i 0 / 8 + get_or ss i 0 / 8) f))
-
-alone-short : (os₁ ss₁ os : List ℕ) (end : ℕ) → alone_in os₁ ss₁ os [] end ≡ end
-unfolding alone_in
-alone-short os₁ ss₁ [] end = refl
-alone-short os₁ ss₁ (o ∷ os) end = refl
-
-pub alone-nowhere : (os₁ ss₁ os ss : List ℕ) (i end : ℕ) → length ss ≤ i → alone_in os₁ ss₁ (drop i os) (drop i ss) end ≡ end
-alone-nowhere os₁ ss₁ os ss i end h =
-    ap (λ (l : List ℕ). alone_in os₁ ss₁ (drop i os) l end) (drop_of_length-le ss {i = i} h) ∙ alone-short os₁ ss₁ (drop i os) end
 
 -- ---- a range, and a copy
 

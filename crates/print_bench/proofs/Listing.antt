@@ -1,4 +1,5 @@
 -- The list of runs: how long its lines can be, and what `differences` leaves of it in what was lent.
+use Rattle.std.specs.Prelude.{Result, Ok, Err}
 use mathlib.Core.Path.{◌≡◌, refl, sym, ap, ap₂, subst, ◌∙◌}
 use mathlib.Core.Bool.{Bool, true, false}
 use mathlib.Core.List.{List, [], ◌∷◌, ◌++◌}
@@ -22,8 +23,6 @@ use Rattle.overlay.specs.List.{Lists}
 use Rattle.overlay.specs.Order.{in_order}
 use Rattle.overlay.specs.Runs.{length_from, begun, runs_from, listed, shorter, runs_of}
 use Rattle.overlay.specs.Trial.{Trial}
-use Rattle.overlay.specs.declared.Listed.{Listed}
-use Rattle.overlay.specs.declared.Listed.TheVariants.{Runs, Refused}
 use Rattle.print_text.specs.Ascii.{ascii}
 use Rattle.print_text.specs.Laws.Lengths.{spaced-few}
 use Rattle.print_text.specs.Lines.{line, refusal_text}
@@ -118,7 +117,7 @@ module _ (t : Trial) (small : length t.released ≤ bytes_room) (little : length
 
   -- ---- what stands in what was lent
 
-  module _ (fs cs : List ℕ) (r : Listed) (fs' cs' : List ℕ) (met : Lists t fs cs r fs' cs') (long : length fs ≡ runs_room) (wide : length cs ≡ runs_room) where
+  module _ (fs cs : List ℕ) (r : Result ℕ Refusal) (fs' cs' : List ℕ) (met : Lists t fs cs r fs' cs') (long : length fs ≡ runs_room) (wide : length cs ≡ runs_room) where
     twice : (b : Bool) → pick b b false ≡ b
     twice true = refl
     twice false = refl
@@ -129,27 +128,27 @@ module _ (t : Trial) (small : length t.released ≤ bytes_room) (little : length
     roomy : room_for (runs_of t) fs cs ≡ leb n runs_room
     roomy = ap₂ (λ (a b : ℕ). pick (leb n a) (leb n b) false) long wide ∙ twice (leb n runs_room)
 
-    answered : r ≡ pick (in_order 0 t.offsets t.sizes) (pick (leb n runs_room) (Runs n) (Refused (TooShort 2))) (Refused (Malformed 0))
-    answered = met.answer ∙ ap (λ (b : Bool). pick (in_order 0 t.offsets t.sizes) (pick b (Runs n) (Refused (TooShort 2))) (Refused (Malformed 0))) roomy
+    answered : r ≡ pick (in_order 0 t.offsets t.sizes) (pick (leb n runs_room) (Ok n) (Err (TooShort 2))) (Err (Malformed 0))
+    answered = met.answer ∙ ap (λ (b : Bool). pick (in_order 0 t.offsets t.sizes) (pick b (Ok n) (Err (TooShort 2))) (Err (Malformed 0))) roomy
 
-    same-refusal : {a b : Refusal} → Refused a ≡ Refused b → a ≡ b
+    same-refusal : {a b : Refusal} → ◌≡◌ {A = Result ℕ Refusal} (Err a) (Err b) → a ≡ b
     same-refusal e = cc
 
-    not-refused : {m : ℕ} {why : Refusal} → Runs m ≡ Refused why → ⊥
+    not-refused : {m : ℕ} {why : Refusal} → Ok m ≡ Err why → ⊥
     not-refused e = unlike cc
 
-    by_tests : (o b : Bool) (why : Refusal) (text : List ℕ) → Refused why ≡ pick o (pick b (Runs n) (Refused (TooShort 2))) (Refused (Malformed 0))
+    by_tests : (o b : Bool) (why : Refusal) (text : List ℕ) → Err why ≡ pick o (pick b (Ok n) (Err (TooShort 2))) (Err (Malformed 0))
         → refusal_text why ≡ pick o (pick b text (refusal_text (TooShort 2))) (refusal_text (Malformed 0))
     by_tests true true why text e = absurd (not-refused (sym e))
     by_tests true false why text e = ap refusal_text (same-refusal e)
     by_tests false b why text e = ap refusal_text (same-refusal e)
 
-    pub list-refused : (load alone : ℕ) (why : Refusal) → r ≡ Refused why → refusal_text why ≡ list_text load alone t
+    pub list-refused : (load alone : ℕ) (why : Refusal) → r ≡ Err why → refusal_text why ≡ list_text load alone t
     unfolding list_text
     list-refused load alone why e = by_tests (in_order 0 t.offsets t.sizes) (leb n runs_room) why _ (sym e ∙ answered)
 
-    module _ (count : ℕ) (found : r ≡ Runs count) where
-      tests : (o b : Bool) → Runs count ≡ pick o (pick b (Runs n) (Refused (TooShort 2))) (Refused (Malformed 0)) → (o ≡ true) × (b ≡ true) × (count ≡ n)
+    module _ (count : ℕ) (found : r ≡ Ok count) where
+      tests : (o b : Bool) → Ok count ≡ pick o (pick b (Ok n) (Err (TooShort 2))) (Err (Malformed 0)) → (o ≡ true) × (b ≡ true) × (count ≡ n)
       tests true true e = (refl, refl, cc)
       tests true false e = absurd (not-refused e)
       tests false b e = absurd (not-refused e)

@@ -1,5 +1,5 @@
 -- What is printed for the bytes of the two files, and for what is asked: every run of bytes that the overlay changes, or a range.
-use Rattle.std.specs.Prelude.{List, [], ◌∷◌, ◌++◌, ℕ, ◌+◌, ◌-◌, ◌*◌, leb, ltb, eqb, length, take, drop}
+use Rattle.std.specs.Prelude.{List, [], ◌∷◌, ◌++◌, ℕ, ◌+◌, ◌-◌, ◌*◌, leb, ltb, eqb, length, take, drop, Err, Ok, Result}
 use Rattle.prelude.specs.Pick.{pick}
 use Rattle.prelude.specs.declared.Refusal.{Refusal}
 use Rattle.prelude.specs.declared.Refusal.TheVariants.{Malformed, TooShort, BadPart}
@@ -9,8 +9,8 @@ use Rattle.overlay.specs.Order.{in_order}
 use Rattle.overlay.specs.Range.{source_of, bytes_of}
 use Rattle.overlay.specs.Runs.{runs_of}
 use Rattle.overlay.specs.Trial.{Trial, trial}
+use Rattle.overlay.specs.declared.Source.TheVariants.{Overlay, Released}
 use Rattle.overlay.specs.declared.Source.{Source}
-use Rattle.overlay.specs.declared.Source.TheVariants.{Overlay, Released, Refused}
 use Rattle.print_text.specs.Ascii.{ascii}
 use Rattle.print_text.specs.Lines.{spaced, line, refusal_text}
 use Rattle.print_bench.specs.declared.Asked.{Asked}
@@ -72,10 +72,10 @@ missing_text why load end size free lack =
 abbrev pub given_text : ℕ → ℕ → ℕ → List ℕ → List ℕ
 given_text load end free bytes = pick (leb end free) (bytes_text (ascii "released") bytes) (named_text BadPart (ascii "released") (load + free))
 
-abbrev pub ToldBy : ℕ → ℕ → ℕ → ℕ → ℕ → Trial → Source → List ℕ
-ToldBy load first count free lack t (Refused why) = missing_text why load (first + count) (length t.released) free lack
-ToldBy load first count free lack t Overlay = bytes_text (ascii "overlay") (bytes_of t first count Overlay)
-ToldBy load first count free lack t Released = given_text load (first + count) free (bytes_of t first count Released)
+abbrev pub ToldBy : ℕ → ℕ → ℕ → ℕ → ℕ → Trial → Result Source Refusal → List ℕ
+ToldBy load first count free lack t (Err why) = missing_text why load (first + count) (length t.released) free lack
+ToldBy load first count free lack t (Ok Overlay) = bytes_text (ascii "overlay") (bytes_of t first count (Ok Overlay))
+ToldBy load first count free lack t (Ok Released) = given_text load (first + count) free (bytes_of t first count (Ok Released))
 
 unfoldable pub source_text : ℕ → ℕ → ℕ → ℕ → ℕ → Trial → List ℕ
 source_text load first count free lack t = ToldBy load first count free lack t (source_of t first count)

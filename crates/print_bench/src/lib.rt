@@ -20,11 +20,8 @@ ghost use Rattle.print_bench.specs.Program.{runs_room, field, run_text, run_line
 ghost use Rattle.print_bench.specs.Program.{missing_text, given_text, source_text, range_text, answer_text, images_text, released_text, bench_text};
 ghost use Rattle.print_bench.specs.Steps.{text_room, far, InBoth, EachInBoth, Loads, Benches};
 
-use bitvec::Hex;
-use blocks::Blocks;
-use overlay::{Listed, Source};
+use overlay::Source;
 use prelude::Refusal;
-use record_scan::Fault;
 
 // The longest file, and a byte more: what is as long as that is refused.
 const SOURCE: usize = 1_048_577;
@@ -43,6 +40,7 @@ const RUNS: usize = 65_536;
 const TEXT: usize = 3_801_600;
 
 // What is asked: every run, or a range by its address and its count of bytes.
+// stays: two questions, and not a value and its lack
 #[derive(Clone, Copy)]
 pub enum Asked {
     Runs,
@@ -57,7 +55,7 @@ fn put_field(bytes: &[u8], at: usize, out: &mut [u8]) -> usize
 {
     let from = print_text::write_word(out, at, b" ");
     let bits = 8 * bytes.len() as u64;
-    let Hex::Digits(n) = bitvec::write_hex(bytes, bits, &mut out[from..]) else {
+    let Ok(n) = bitvec::write_hex(bytes, bits, &mut out[from..]) else {
         return from;
     };
     from + n as usize
@@ -103,8 +101,8 @@ fn put_runs(
         out.old 0 result out.new }
 {
     let mut end = 0;
-    for i in 0..firsts.len() {
-        end = put_run(load, released, overlay, firsts[i], counts[i], end, out);
+    for (first, count) in firsts.iter().zip(counts) {
+        end = put_run(load, released, overlay, *first, *count, end, out);
     }
     end
 }
@@ -138,11 +136,8 @@ fn first_free(offsets: &[u64], sizes: &[u64], at: u64) -> u64
     ensures upper_bound { result ≤ max at far }
 {
     let mut free = at;
-    for i in 0..offsets.len() {
-        if i >= sizes.len() {
-            return free;
-        }
-        free = beyond(offsets[i], sizes[i], free);
+    for (offset, size) in offsets.iter().zip(sizes) {
+        free = beyond(*offset, *size, free);
     }
     free
 }
@@ -158,13 +153,9 @@ fn first_alone(
     ensures value { result ≡ alone_in released_offsets.now released_sizes.now offsets.now sizes.now end }
     ensures upper_bound { result ≤ max end far }
 {
-    for i in 0..offsets.len() {
-        if i >= sizes.len() {
-            return end;
-        }
-        let offset = offsets[i];
-        let free = first_free(released_offsets, released_sizes, offset / 8);
-        if free < end_of(offset, sizes[i]) {
+    for (offset, size) in offsets.iter().zip(sizes) {
+        let free = first_free(released_offsets, released_sizes, *offset / 8);
+        if free < end_of(*offset, *size) {
             return free;
         }
     }
@@ -206,8 +197,8 @@ fn put_list(
 {
     let listed = overlay::differences(overlay, released, offsets, sizes, firsts, counts);
     match listed {
-        Listed::Refused(why) => prog_args::put_refusal(why, out),
-        Listed::Runs(count) => {
+        Err(why) => prog_args::put_refusal(why, out),
+        Ok(count) => {
             let n = count as usize;
             let at = put_runs(load, released, overlay, &firsts[..n], &counts[..n], out);
             let next = put_alone(load, alone, overlay.len() as u64, at, out);
@@ -296,11 +287,11 @@ fn put_source<'a>(
     let bytes = overlay::pick(overlay, released, offsets, sizes, first, count);
     let end = first + count;
     match source {
-        Source::Refused(why) => {
-            put_missing(why, load, end, released.len() as u64, free, lack, out)
-        }
-        Source::Overlay => put_bytes(b"overlay", bytes, out),
-        Source::Released => put_given(load, end, free, bytes, out),
+        Err(why) => { put_missing(why, load, end, released.len() as u64, free, lack, out) }
+        Ok(source) => match source {
+            Source::Overlay => put_bytes(b"overlay", bytes, out),
+            Source::Released => put_given(load, end, free, bytes, out),
+        },
     }
 }
 
@@ -351,15 +342,10 @@ fn extent(offsets: &[u64], sizes: &[u64], bytes: &[u8]) -> usize
     ensures value { result ≡ min (extent_of offsets.now sizes.now) (length bytes.now) }
     ensures prefix_len { IsPrefixLen result bytes.now }
 {
-    if offsets.len() == 0 {
+    let (Some(offset), Some(size)) = (offsets.last(), sizes.last()) else {
         return 0;
-    }
-    let last = offsets.len() - 1;
-    let end = end_of(offsets[last], sizes[last]);
-    if end < bytes.len() as u64 {
-        return end as usize;
-    }
-    bytes.len()
+    };
+    end_of(*offset, *size).min(bytes.len() as u64) as usize
 }
 
 // What is asked of two files that were read, each within its image.
@@ -457,13 +443,13 @@ fn load_file(
     bytes: &mut [u8],
     offsets: &mut [u64],
     sizes: &mut [u64],
-) -> Blocks
+) -> Result<u64, Refusal>
     requires bytes_len { length bytes.old ≡ bytes_room }
     requires offsets_len { (length offsets.old ≡ blocks_room) × (length sizes.old ≡ blocks_room) }
     ensures { Loads (file_of load bytes.old source.now) result bytes.new offsets.new sizes.new }
 {
     if source.len() >= SOURCE {
-        return Blocks::Refused(Refusal::Malformed(0));
+        return Err(Refusal::Malformed(0));
     }
     let mut scratch = [0u8; SCRATCH];
     record_read::read(0, source, load, bytes, offsets, sizes, &mut scratch)
@@ -481,8 +467,8 @@ fn put_fault(load: u32, source: &[u8], at: usize, out: &mut [u8]) -> usize
     let mut scratch = [0u8; SCRATCH];
     let fault = record_scan::line_at_fault(0, source, load, &mut scratch);
     match fault {
-        Fault::Good => at,
-        Fault::At(line) => {
+        None => at,
+        Some(line) => {
             let numbers = [line];
             print_text::write_line(out, at, b"line", &numbers)
         }
@@ -527,8 +513,8 @@ fn put_released(
     print_text::write_word(released, 0, overlay);
     let found = load_file(load, source, released, released_offsets, released_sizes);
     match found {
-        Blocks::Refused(why) => put_unread(why, b"released\n", load, source, out),
-        Blocks::Found(count) => {
+        Err(why) => put_unread(why, b"released\n", load, source, out),
+        Ok(count) => {
             let n = count as usize;
             put_images(
                 asked,
@@ -582,8 +568,8 @@ fn put_files(
 {
     let found = load_file(load, overlay_file, overlay, offsets, sizes);
     match found {
-        Blocks::Refused(why) => put_unread(why, b"overlay\n", load, overlay_file, out),
-        Blocks::Found(count) => {
+        Err(why) => put_unread(why, b"overlay\n", load, overlay_file, out),
+        Ok(count) => {
             let k = count as usize;
             put_released(
                 asked,

@@ -1,14 +1,14 @@
 -- The records' lines by the marks and numbers that the code writes.
+use Rattle.std.specs.Prelude.{Result, ℤ, Ok, Err}
 use mathlib.Core.Path.{◌≡◌, refl, sym, ap, subst, ◌∙◌}
 use mathlib.Core.Bool.{Bool, true, false}
 use mathlib.Core.List.{List, [], ◌∷◌, ◌++◌}
-use Prim.Native.Nat.{ℕ, zero, suc, ◌+◌, ◌≤◌, ◌<◌}
+use Prim.Native.Nat.{ℕ, ◌+◌}
 use native.Mathlib.Numerals.{add-one}
-use native.Mathlib.Omega.{arith}
 use borrow.Author.Tests.{ne_eqb}
 use lib.Dec.{eqb}
 use lib.IntN.{nat_abs}
-use lib.ListN.{length, get_or}
+use lib.ListN.{get_or}
 use Rattle.prelude.specs.Pick.{pick}
 use Rattle.prelude.specs.Refusals.{number_of, place_of}
 use Rattle.prelude.specs.declared.Place.{Place}
@@ -18,8 +18,6 @@ use Rattle.bankdef.specs.declared.Bankdef.{Bankdef}
 use Rattle.bankdef.specs.declared.Bankdefs.{Bankdefs}
 use Rattle.blocks.specs.Offsets.{no_offset}
 use Rattle.iter.specs.Address.{address_of}
-use Rattle.iter.specs.declared.Address.{Address}
-use Rattle.iter.specs.declared.Address.TheVariants.{At, Refused}
 use Rattle.iter.specs.Step.{no_lost}
 use Rattle.iter.specs.declared.Lost.{Lost}
 use Rattle.resolver.specs.Once.{bank_record}
@@ -41,9 +39,9 @@ pub cells-none : (marks numbers : List ℕ) → cells_to marks numbers 0 ≡ []
 unfolding cells_to
 cells-none marks numbers = refl
 
-is_address : (a : Address) → cell_of (address_mark a) (address_value a) ≡ address_cell a
-is_address (At z) = is_signed z
-is_address (Refused why) = refl
+is_address : (a : Result ℤ Refusal) → cell_of (address_mark a) (address_value a) ≡ address_cell a
+is_address (Ok z) = is_signed z
+is_address (Err why) = refl
 
 is_word : (word : ℕ) → cell_of (pick (eqb word no_offset) 2 0) word ≡ word_cell word
 is_word word = by (eqb word no_offset)
@@ -169,7 +167,7 @@ module _ {old new : List ℕ} {at r : ℕ} where
       (i ∷ def.unit ∷ x.z ∷ x.v1 ∷ x.v2 ∷ x.v3 ∷ x.f ∷ def.fill_bit ∷ padding.bits ∷ padding.units ∷ [])) old at r new)
       (nine-same a b c d e g h j k) w)
 
-  pub node-written : (banks : Bankdefs) (i kind bank position word size : ℕ) {def : Bankdef} {address : Address} {a v w : ℕ} → def ≡ bank_record banks bank
+  pub node-written : (banks : Bankdefs) (i kind bank position word size : ℕ) {def : Bankdef} {address : Result ℤ Refusal} {a v w : ℕ} → def ≡ bank_record banks bank
       → address ≡ address_of def position i → a ≡ address_mark address → v ≡ address_value address → w ≡ pick (eqb word no_offset) 2 0
       → Writes (line_to (ascii "node") (0 ∷ 0 ∷ 0 ∷ 0 ∷ a ∷ w ∷ 0 ∷ []) (i ∷ kind ∷ bank ∷ position ∷ v ∷ word ∷ size ∷ [])) old at r new
       → Writes (node_line banks i kind bank position word size) old at r new

@@ -1,19 +1,17 @@
 -- The records of the map over the lists of a sound file are the file's text.
+use Rattle.std.specs.Prelude.{Option, Err, Ok}
 use mathlib.Core.Path.{◌≡◌, refl, sym, ap, subst, ◌∙◌}
 use mathlib.Core.List.{List}
-use Prim.Native.Nat.{ℕ, zero, suc, ◌+◌, ◌*◌, ◌≤◌, ◌<◌}
+use Prim.Native.Nat.{ℕ, zero, suc, ◌*◌, ◌≤◌}
 use native.Mathlib.Omega.{arith}
 use lib.ListN.{length, take, drop, length-append, length-drop}
 use Rattle.prelude.specs.Limits.{max_nodes}
-use Rattle.prelude.specs.declared.Opt.{Opt}
 use Rattle.prelude.specs.declared.Refusal.{Refusal}
-use Rattle.prelude.specs.declared.Verdict.{Verdict}
-use Rattle.prelude.specs.declared.Verdict.TheVariants.{Accepted, Refused}
+use Rattle.prelude.specs.Verdict.{Verdict, Accepted}
 use Rattle.bankdef.specs.declared.Bankdefs.{Bankdefs}
 use Rattle.bitvec.specs.Lists.{list_of}
 use Rattle.bitvec.specs.Laws.Lists.{length-list_of}
 use Rattle.form_fields.specs.declared.Shape.{Shape}
-use Rattle.form_fields.specs.declared.Form.TheVariants.{Sound, Broken}
 use Rattle.form_fields.specs.Shape.{form_of}
 use Rattle.form_fields.specs.Banks.{table_of}
 use Rattle.form_fields.specs.Lists.{kinds_of, operands_of, numbers_of, states_of, values_by}
@@ -23,14 +21,14 @@ use Rattle.resolver.specs.Passes.{program, row_of_pass}
 use Rattle.resolver.specs.declared.Choices.{Choices}
 use Rattle.output.specs.Output.{Input, input}
 use Rattle.form_build.specs.Filed.{choices_of, HeldIn, lists_in}
-use Rattle.build_map.specs.Calls.{Call, program_in, row_in, nodes_in}
+use Rattle.build_map.specs.Calls.{Call, program_in, row_in}
 use Rattle.build_map.specs.Theorems.Entries.{entries-are, entries-few, entries-listed}
-use Rattle.build_map.specs.Map.{map_of, Lent, bank_shown, position_shown, output_shown, size_shown, shown, Maps}
+use Rattle.build_map.specs.Map.{Lent, bank_shown, position_shown, output_shown, size_shown, shown, Maps}
 use Rattle.build_map.specs.declared.Map.{Map}
 use Rattle.print_map.specs.Steps.{nodes_held, text_held}
-use Rattle.print_map.specs.Text.{node_line, nodes_text, refused_text, layout_text, input_of, said_in, map_after, text_by, map_text}
+use Rattle.print_map.specs.Text.{nodes_text, refused_text, layout_text, input_of, said_in, map_after, text_by, map_text}
 
-pub broken-text : (file : List ℕ) (fill : ℕ) (page : Opt) (why : Refusal) → form_of file ≡ Broken why → refused_text why ≡ map_text file fill page
+pub broken-text : (file : List ℕ) (fill : ℕ) (page : Option ℕ) (why : Refusal) → form_of file ≡ Err why → refused_text why ≡ map_text file fill page
 unfolding map_text
 broken-text file fill page why e = sym (ap (text_by file fill page) e)
 
@@ -66,7 +64,7 @@ nodes-fit {b} {old} {new} {m} meets =
       long-enough m.nodes (size_shown p row) old.sizes new.sizes (ap (λ (l : Lent). l.sizes) meets.left),
     )
 
-module _ (file : List ℕ) (fill : ℕ) (s : Shape) (sound : form_of file ≡ Sound s) (banks : Bankdefs) (kinds operands numbers states values : List ℕ)
+module _ (file : List ℕ) (fill : ℕ) (s : Shape) (sound : form_of file ≡ Ok s) (banks : Bankdefs) (kinds operands numbers states values : List ℕ)
     (choices : Choices) (h : HeldIn file s kinds operands numbers states) (ec : choices ≡ choices_of s fill) (eb : banks ≡ table_of file)
     (ev : values ≡ values_by file (form_of file)) (old new : Lent) (m : Map)
     (meets : Maps (input banks
@@ -113,9 +111,9 @@ module _ (file : List ℕ) (fill : ℕ) (s : Shape) (sound : form_of file ≡ So
       ≡ layout_text s (input_of file s fill) (map_after v m)
   unfolding nodes_held nodes_text
   said-text Accepted = own-text
-  said-text (Refused why) = rw (eb) refl
+  said-text (Err why) = rw (eb) refl
 
-  module _ (page : Opt) (shown : Map) (is : shown ≡ map_after (said_in page (input banks
+  module _ (page : Option ℕ) (shown : Map) (is : shown ≡ map_after (said_in page (input banks
       (lists (take s.nodes kinds) (take s.nodes operands) (take (s.rows * s.nodes) numbers) (take (s.rows * s.nodes) states) s.rows values)
       choices)) m) where
     is_said : shown ≡ map_after (said_in page (input_of file s fill)) m
@@ -129,7 +127,7 @@ module _ (file : List ℕ) (fill : ℕ) (s : Shape) (sound : form_of file ≡ So
     -- no more nodes have entries than the map has
     fewer : (v : Verdict) → (map_after v m).nodes ≤ m.nodes
     fewer Accepted = omega arith
-    fewer (Refused why) = omega arith
+    fewer (Err why) = omega arith
 
     pub shown-fewer : shown.nodes ≤ m.nodes
     shown-fewer = omega (arith, ap (λ (x : Map). x.nodes) is_said, fewer (said_in page (input_of file s fill)))

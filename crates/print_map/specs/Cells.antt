@@ -1,9 +1,7 @@
 -- A line of the map's text: a word, then cells with a space before each, and LF. A cell is a number, a number below zero with a minus, or `-` for none.
-use Rattle.std.specs.Prelude.{List, [], ◌∷◌, ◌++◌, ℕ, ℤ, pos, nat_abs}
+use Rattle.std.specs.Prelude.{List, [], ◌∷◌, ◌++◌, ℕ, ℤ, pos, nat_abs, Option, None, Some}
 use Rattle.std.specs.Int.Signed.{lt_z}
 use Rattle.prelude.specs.Pick.{pick}
-use Rattle.prelude.specs.declared.Opt.{Opt}
-use Rattle.prelude.specs.declared.Opt.TheVariants.{None, Some}
 use Rattle.print_text.specs.Ascii.{ascii}
 use Rattle.print_text.specs.Decimal.{decimal}
 
@@ -30,6 +28,6 @@ abbrev pub signed : ℤ → Cell
 signed z = pick (lt_z z (pos 0)) (minus (nat_abs z)) (number (nat_abs z))
 
 -- a number that may be absent
-abbrev pub optional : Opt → Cell
+abbrev pub optional : Option ℕ → Cell
 optional None = none
 optional (Some n) = number n

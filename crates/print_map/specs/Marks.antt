@@ -1,11 +1,8 @@
 -- Cells as the code holds them: a mark and a number for each.
-use Rattle.std.specs.Prelude.{Bool, true, false, List, [], ◌++◌, ℕ, zero, suc, eqb, ℤ, pos, nat_abs, length, get_or}
+use Rattle.std.specs.Prelude.{Bool, true, false, List, [], ◌++◌, ℕ, zero, suc, eqb, ℤ, pos, nat_abs, length, get_or, Option, None, Some, Result, Ok, Err}
 use Rattle.std.specs.Int.Signed.{lt_z}
 use Rattle.prelude.specs.Pick.{pick}
-use Rattle.prelude.specs.declared.Opt.{Opt}
-use Rattle.prelude.specs.declared.Opt.TheVariants.{None, Some}
-use Rattle.iter.specs.declared.Address.{Address}
-use Rattle.iter.specs.declared.Address.TheVariants.{At, Refused}
+use Rattle.prelude.specs.declared.Refusal.{Refusal}
 use Rattle.print_text.specs.Ascii.{ascii}
 use Rattle.print_map.specs.Cells.{Cell, number, minus, none, cell_text}
 
@@ -24,21 +21,21 @@ line_to word marks numbers = word ++ cells_to marks numbers (length numbers) ++ 
 abbrev pub sign_of : ℤ → ℕ
 sign_of z = pick (lt_z z (pos 0)) 1 0
 
-abbrev pub mark_of : Opt → ℕ
+abbrev pub mark_of : Option ℕ → ℕ
 mark_of None = 2
 mark_of (Some n) = 0
 
-abbrev pub value_of : Opt → ℕ
+abbrev pub value_of : Option ℕ → ℕ
 value_of None = 0
 value_of (Some n) = n
 
-abbrev pub address_mark : Address → ℕ
-address_mark (At z) = sign_of z
-address_mark (Refused why) = 2
+abbrev pub address_mark : Result ℤ Refusal → ℕ
+address_mark (Ok z) = sign_of z
+address_mark (Err why) = 2
 
-abbrev pub address_value : Address → ℕ
-address_value (At z) = nat_abs z
-address_value (Refused why) = 0
+abbrev pub address_value : Result ℤ Refusal → ℕ
+address_value (Ok z) = nat_abs z
+address_value (Err why) = 0
 
 abbrev pub bit_of : Bool → ℕ
 bit_of true = 1

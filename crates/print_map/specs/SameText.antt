@@ -1,7 +1,6 @@
 -- Two maps as they are printed, and what is the same of them where their texts are.
-use Rattle.std.specs.Prelude.{◌≡◌, List, ℕ, ◌<◌, min, get_or}
+use Rattle.std.specs.Prelude.{◌≡◌, List, ℕ, ◌<◌, min, get_or, Option, Err, Ok}
 use Rattle.prelude.specs.Limits.{max_banks}
-use Rattle.prelude.specs.declared.Opt.{Opt}
 use Rattle.prelude.specs.declared.Refusal.{Refusal}
 use Rattle.bankdef.specs.declared.Bankdefs.{Bankdefs}
 use Rattle.iter.specs.Address.{address_of}
@@ -10,7 +9,6 @@ use Rattle.nodes.specs.Lists.{Row}
 use Rattle.resolver.specs.Once.{Program, bank_record}
 use Rattle.resolver.specs.Passes.{program, row_of_pass}
 use Rattle.form_fields.specs.Shape.{form_of}
-use Rattle.form_fields.specs.declared.Form.TheVariants.{Sound, Broken}
 use Rattle.form_fields.specs.declared.Shape.{Shape}
 use Rattle.build_map.specs.Map.{bank_shown, position_shown, output_shown, size_shown}
 use Rattle.build_map.specs.declared.Map.{Map}
@@ -63,7 +61,7 @@ pub record Same (x y : Printed) : Type 0 where
   pub verdict : x.map.verdict ≡ y.map.verdict
 
 -- what is printed of a sound file
-abbrev pub printed_of : List ℕ → ℕ → Opt → Shape → Printed
+abbrev pub printed_of : List ℕ → ℕ → Option ℕ → Shape → Printed
 printed_of file fill page s =
     record {
       shape = s;
@@ -74,7 +72,7 @@ printed_of file fill page s =
     }
 
 -- Two files, each with a fill's choice and a page size: both broken, for one reason, or both sound, and then their maps are the same.
-pub data SameFiles (file other : List ℕ) (fill fill' : ℕ) (page page' : Opt) : Type 0 where
-  broken : (why : Refusal) → form_of file ≡ Broken why → form_of other ≡ Broken why → SameFiles file other fill fill' page page'
-  sound : (s t : Shape) → form_of file ≡ Sound s → form_of other ≡ Sound t → Same (printed_of file fill page s) (printed_of other fill' page' t)
+pub data SameFiles (file other : List ℕ) (fill fill' : ℕ) (page page' : Option ℕ) : Type 0 where
+  broken : (why : Refusal) → form_of file ≡ Err why → form_of other ≡ Err why → SameFiles file other fill fill' page page'
+  sound : (s t : Shape) → form_of file ≡ Ok s → form_of other ≡ Ok t → Same (printed_of file fill page s) (printed_of other fill' page' t)
       → SameFiles file other fill fill' page page'

@@ -7,24 +7,19 @@
 --     accepted, or refused NUMBER PLACE
 --
 -- A file whose form is broken is a refusal's line alone.
-use Rattle.std.specs.Prelude.{List, [], ◌∷◌, ◌++◌, ℕ, zero, suc, min, eqb, get_or, replicate}
+use Rattle.std.specs.Prelude.{List, [], ◌∷◌, ◌++◌, ℕ, zero, suc, min, eqb, get_or, replicate, Result, ℤ, Ok, Err, Option, None, Some}
 use Rattle.prelude.specs.Limits.{max_banks}
 use Rattle.prelude.specs.Pick.{pick}
 use Rattle.prelude.specs.Refusals.{number_of, place_of}
-use Rattle.prelude.specs.declared.Opt.{Opt}
-use Rattle.prelude.specs.declared.Opt.TheVariants.{None as NoPage, Some as Pages}
 use Rattle.prelude.specs.declared.Place.{Place}
 use Rattle.prelude.specs.declared.Place.TheVariants.{One, Two}
 use Rattle.prelude.specs.declared.Refusal.{Refusal}
-use Rattle.prelude.specs.declared.Verdict.{Verdict}
-use Rattle.prelude.specs.declared.Verdict.TheVariants.{Accepted, Refused}
+use Rattle.prelude.specs.Verdict.{Verdict, Accepted}
 use Rattle.bankdef.specs.declared.Bankdef.{Bankdef}
 use Rattle.bankdef.specs.declared.Bankdefs.{Bankdefs}
 use Rattle.blocks.specs.Offsets.{no_offset}
 use Rattle.iter.specs.Address.{address_of}
 use Rattle.iter.specs.Step.{no_lost}
-use Rattle.iter.specs.declared.Address.{Address}
-use Rattle.iter.specs.declared.Address.TheVariants.{At, Refused as Untold}
 use Rattle.iter.specs.declared.Lost.{Lost}
 use Rattle.nodes.specs.Lists.{Row}
 use Rattle.resolver.specs.Once.{Program, bank_record}
@@ -32,14 +27,10 @@ use Rattle.resolver.specs.Passes.{program, row_of_pass}
 use Rattle.output.specs.Output.{Input, input}
 use Rattle.form_fields.specs.Banks.{table_of}
 use Rattle.form_fields.specs.Shape.{form_of}
-use Rattle.form_fields.specs.declared.Form.{Form}
-use Rattle.form_fields.specs.declared.Form.TheVariants.{Sound, Broken}
 use Rattle.form_fields.specs.declared.Shape.{Shape}
 use Rattle.form_build.specs.Filed.{lists_in, choices_of}
 use Rattle.build_paged.specs.InProfile.{said_of}
 use Rattle.build_map.specs.Map.{map_of, bank_shown, position_shown, output_shown, size_shown}
-use Rattle.build_map.specs.declared.Fault.{Fault}
-use Rattle.build_map.specs.declared.Fault.TheVariants.{None, At as AtNode}
 use Rattle.build_map.specs.declared.Map.{Map}
 use Rattle.print_text.specs.Ascii.{ascii}
 use Rattle.print_map.specs.Cells.{Cell, number, none, line_of, signed, optional}
@@ -70,9 +61,9 @@ banks_text banks padding (suc i) = banks_text banks padding i ++ bank_line i (ba
 -- ---- a node
 
 -- an address, which a bank of a sound table always has
-abbrev pub address_cell : Address → Cell
-address_cell (At z) = signed z
-address_cell (Untold why) = none
+abbrev pub address_cell : Result ℤ Refusal → Cell
+address_cell (Ok z) = signed z
+address_cell (Err why) = none
 
 -- a place in the output, or the word for none
 abbrev pub word_cell : ℕ → Cell
@@ -100,9 +91,9 @@ nodes_text p row (suc i) =
 
 -- ---- the node at fault, and the verdict
 
-abbrev pub fault_text : Fault → List ℕ
+abbrev pub fault_text : Option ℕ → List ℕ
 fault_text None = []
-fault_text (AtNode n) = line_of (ascii "fault") (number n ∷ [])
+fault_text (Some n) = line_of (ascii "fault") (number n ∷ [])
 
 abbrev pub place_cells : Place → List Cell
 place_cells (One p) = number p ∷ []
@@ -114,7 +105,7 @@ refused_text why = line_of (ascii "refused") (number (number_of why) ∷ place_c
 
 abbrev pub verdict_text : Verdict → List ℕ
 verdict_text Accepted = ascii "accepted\n"
-verdict_text (Refused why) = refused_text why
+verdict_text (Err why) = refused_text why
 
 -- ---- the file
 
@@ -139,23 +130,23 @@ input_of file s fill = input (table_of file) (lists_in file) (choices_of s fill)
 
 -- What the profile of a device with pages says of a layout, where there is a page size. "A build in the profile is the ordinary build after a yes.
 -- Refusals: 19 (new), after 4 and before the first pass" (document 02, Ticket 9): no pass is run then, and no node has an entry.
-abbrev pub said_in : Opt → Input → Verdict
-said_in NoPage b = Accepted
-said_in (Pages bits) b = said_of bits b
+abbrev pub said_in : Option ℕ → Input → Verdict
+said_in None b = Accepted
+said_in (Some bits) b = said_of bits b
 
 abbrev pub map_after : Verdict → Map → Map
 map_after Accepted m = m
-map_after (Refused why) m = record { verdict = Refused why; passes = 0; nodes = 0; fault = None; padding = replicate max_banks no_lost }
+map_after (Err why) m = record { verdict = Err why; passes = 0; nodes = 0; fault = None; padding = replicate max_banks no_lost }
 
-abbrev pub map_in : Opt → Input → Map
+abbrev pub map_in : Option ℕ → Input → Map
 map_in page b = map_after (said_in page b) (map_of b)
 
-abbrev pub text_by : List ℕ → ℕ → Opt → Form → List ℕ
-text_by file fill page (Broken why) = refused_text why
-text_by file fill page (Sound s) = layout_text s (input_of file s fill) (map_in page (input_of file s fill))
+abbrev pub text_by : List ℕ → ℕ → Option ℕ → Result Shape Refusal → List ℕ
+text_by file fill page (Err why) = refused_text why
+text_by file fill page (Ok s) = layout_text s (input_of file s fill) (map_in page (input_of file s fill))
 
 -- The map's text of a file's bytes, a fill's choice and a page size, if there is one.
-unfoldable pub map_text : List ℕ → ℕ → Opt → List ℕ
+unfoldable pub map_text : List ℕ → ℕ → Option ℕ → List ℕ
 map_text file fill page = text_by file fill page (form_of file)
 
 -- room for any of them: 160 bytes for each of 4,096 nodes, and 8,192 for the rest

@@ -46,9 +46,9 @@ fn write_cells(out: &mut [u8], at: usize, marks: &[u8], numbers: &[u64]) -> usiz
     ensures upper_bound { result ≤ at + 22 * length numbers.now }
 {
     let mut end = at;
-    for i in 0..numbers.len() {
+    for (mark, number) in marks.iter().zip(numbers) {
         out[end] = b' ';
-        end = write_cell(out, end + 1, marks[i], numbers[i]);
+        end = write_cell(out, end + 1, *mark, *number);
     }
     end
 }

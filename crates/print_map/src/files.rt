@@ -11,26 +11,26 @@ ghost use Rattle.print_map.specs.Text.{file_line, said_in, map_after, map_text, 
 use crate::cells::write_line;
 use crate::records::{write_banks, write_fault, write_nodes, write_refused, write_verdict};
 use bankdef::Bankdefs;
-use build_map::{Fault, Map};
+use build_map::Map;
 use form_build::{CELLS, ROOM};
-use form_fields::{Form, Shape};
+use form_fields::Shape;
 use iter::Lost;
-use prelude::{Opt, Verdict};
+use prelude::Refusal;
 use resolver::Choices;
 
 // The map after what the profile said: "19 (new), after 4 and before the first pass", so that no node has an entry.
-fn after(said: Verdict, map: Map) -> Map
+fn after(said: Result<(), Refusal>, map: Map) -> Map
     ensures { result ≡ map_after said map }
 {
     match said {
-        Verdict::Accepted => map,
-        Verdict::Refused(why) => {
+        Ok(()) => map,
+        Err(why) => {
             let none = Lost { bits: 0, units: 0 };
             Map {
-                verdict: Verdict::Refused(why),
+                verdict: Err(why),
                 passes: 0,
                 nodes: 0,
-                fault: Fault::None,
+                fault: None,
                 padding: [none; 16],
             }
         }
@@ -39,7 +39,7 @@ fn after(said: Verdict, map: Map) -> Map
 
 // The map of a layout in the profile of a device with pages, where a page size is given.
 fn in_profile(
-    page: Opt,
+    page: Option<u32>,
     banks: Bankdefs,
     kinds: &[u8],
     operands: &[u32],
@@ -56,8 +56,8 @@ fn in_profile(
         choices)) map }
 {
     match page {
-        Opt::None => map,
-        Opt::Some(bits) => {
+        None => map,
+        Some(bits) => {
             let paged = build_profile::check_profile(
                 banks, kinds, operands, numbers, states, rows, values, choices, bits,
             );
@@ -129,7 +129,7 @@ fn map_read(
     file: &[u8],
     shape: Shape,
     fill: u8,
-    page: Opt,
+    page: Option<u32>,
     kinds: &[u8],
     operands: &[u32],
     numbers: &[u32],
@@ -190,19 +190,25 @@ fn map_read(
 }
 
 // The text of a file: its lists are read into arrays that are large enough for any file.
-fn map_file(file: &[u8], fill: u8, page: Opt, out: &mut [u8]) -> usize
+fn map_file(file: &[u8], fill: u8, page: Option<u32>, out: &mut [u8]) -> usize
     requires { map_room ≤ length out.old }
     ensures writes { Writes (map_text file.now fill page) out.old 0 result out.new }
     ensures upper_bound { result ≤ map_room }
 {
     match form_fields::read_shape(file) {
-        Form::Broken(why) => write_refused(out, 0, why),
-        Form::Sound(shape) => {
+        Err(why) => write_refused(out, 0, why),
+        Ok(shape) => {
             let mut kinds = [0u8; ROOM];
             let mut operands = [0u32; ROOM];
             let mut numbers = [0u32; CELLS];
             let mut states = [0u8; CELLS];
-            form_lists::read_lists(file, &mut kinds, &mut operands, &mut numbers, &mut states);
+            let _ = form_lists::read_lists(
+                file,
+                &mut kinds,
+                &mut operands,
+                &mut numbers,
+                &mut states,
+            );
             map_read(
                 file, shape, fill, page, &kinds, &operands, &numbers, &states, out,
             )
@@ -211,7 +217,7 @@ fn map_file(file: &[u8], fill: u8, page: Opt, out: &mut [u8]) -> usize
 }
 
 // The map's text of a file of either form, a fill's choice and a page size, if there is one, at the front of `out`, which has room for any.
-pub fn write_map(file: &[u8], fill: u8, page: Opt, out: &mut [u8; 663552]) -> usize
+pub fn write_map(file: &[u8], fill: u8, page: Option<u32>, out: &mut [u8; 663552]) -> usize
     ensures writes { Writes (map_text file.now fill page) out.old 0 result out.new }
     ensures upper_bound { result ≤ map_room }
 {

@@ -4,63 +4,56 @@ ghost use Rattle.prelude.specs.Limits.{max_banks, max_nodes};
 ghost use Rattle.prelude.specs.Pick.{pick};
 ghost use Rattle.blocks.specs.Offsets.{no_offset};
 ghost use Rattle.print_text.specs.Puts.{Writes};
-ghost use Rattle.print_map.specs.Marks.{sign_of, mark_of, value_of, address_mark, address_value, bit_of};
+ghost use Rattle.print_map.specs.Marks.{sign_of, mark_of, value_of, address_mark, address_value};
 ghost use Rattle.print_map.specs.Steps.{nodes_held};
 ghost use Rattle.print_map.specs.Text.{bank_line, banks_text, node_line, fault_text, refused_text, verdict_text};
 
 use crate::cells::write_line;
 use bankdef::{Bankdef, Bankdefs};
 use blocks::NO_OFFSET;
-use build_map::Fault;
-use iter::{Address, Lost};
-use prelude::{Opt, Place, Refusal, Verdict};
+use iter::Lost;
+use prelude::{Place, Refusal};
 use print_text::write_word;
 
 fn sign_of(x: i64) -> u8
     ensures { result ≡ sign_of x }
 {
-    if x < 0 { 1 } else { 0 }
+    u8::from(x < 0)
 }
 
-fn mark_of(o: Opt) -> u8
+fn mark_of(o: Option<u32>) -> u8
     ensures { result ≡ mark_of o }
 {
     match o {
-        Opt::None => 2,
-        Opt::Some(_) => 0,
+        None => 2,
+        Some(_) => 0,
     }
 }
 
-fn value_of(o: Opt) -> u64
+fn value_of(o: Option<u32>) -> u64
     ensures { result ≡ value_of o }
 {
     match o {
-        Opt::None => 0,
-        Opt::Some(n) => n as u64,
+        None => 0,
+        Some(n) => n as u64,
     }
 }
 
-fn bit_of(b: bool) -> u64
-    ensures { result ≡ bit_of b }
-{
-    if b { 1 } else { 0 }
-}
-
-fn address_mark(a: Address) -> u8
+fn address_mark(a: Result<i64, Refusal>) -> u8
     ensures { result ≡ address_mark a }
 {
     match a {
-        Address::At(z) => sign_of(z),
-        Address::Refused(_) => 2,
+        Ok(z) => sign_of(z),
+        Err(_) => 2,
     }
 }
 
-fn address_value(a: Address) -> u64
+fn address_value(a: Result<i64, Refusal>) -> u64
     ensures { result ≡ address_value a }
 {
     match a {
-        Address::At(z) => bankdef::magnitude(z),
-        Address::Refused(_) => 0,
+        Ok(z) => bankdef::magnitude(z),
+        Err(_) => 0,
     }
 }
 
@@ -99,7 +92,7 @@ fn write_bank(out: &mut [u8], at: usize, i: u64, def: Bankdef, padding: Lost) ->
         value_of(size),
         value_of(offset),
         value_of(align),
-        bit_of(fill),
+        u64::from(fill),
         def.fill_bit as u64,
         padding.bits,
         padding.units,
@@ -113,11 +106,11 @@ pub(crate) fn write_banks(out: &mut [u8], at: usize, banks: Bankdefs, padding: [
     ensures writes { Writes (banks_text banks padding (min banks.len max_banks)) out.old at result out.new }
     ensures upper_bound { result ≤ at + 3680 }
 {
-    let count = prelude::lesser(banks.len, 16);
+    let count = banks.len.min(16) as usize;
     let mut end = at;
-    for i in 0..count {
-        let def = resolver::bank_record(banks, i);
-        end = write_bank(out, end, i, def, padding[i as usize]);
+    for (i, lost) in padding[..count].iter().enumerate() {
+        let def = resolver::bank_record(banks, i as u64);
+        end = write_bank(out, end, i as u64, def, *lost);
     }
     end
 }
@@ -173,6 +166,7 @@ pub(crate) fn write_nodes(
     ensures upper_bound { result ≤ at + 160 * nodes }
 {
     let mut end = at;
+    // stays: an index into five lists at once; a zip of five is no plainer
     for i in 0..nodes {
         end = write_node(
             out,
@@ -189,14 +183,14 @@ pub(crate) fn write_nodes(
     end
 }
 
-pub(crate) fn write_fault(out: &mut [u8], at: usize, fault: Fault) -> usize
+pub(crate) fn write_fault(out: &mut [u8], at: usize, fault: Option<u64>) -> usize
     requires { at + 28 ≤ length out.old }
     ensures writes { Writes (fault_text fault) out.old at result out.new }
     ensures upper_bound { result ≤ at + 28 }
 {
     match fault {
-        Fault::None => at,
-        Fault::At(n) => {
+        None => at,
+        Some(n) => {
             let marks = [0u8];
             let numbers = [n];
             write_line(out, at, b"fault", &marks, &numbers)
@@ -224,13 +218,13 @@ pub(crate) fn write_refused(out: &mut [u8], at: usize, why: Refusal) -> usize
     }
 }
 
-pub(crate) fn write_verdict(out: &mut [u8], at: usize, verdict: Verdict) -> usize
+pub(crate) fn write_verdict(out: &mut [u8], at: usize, verdict: Result<(), Refusal>) -> usize
     requires { at + 80 ≤ length out.old }
     ensures writes { Writes (verdict_text verdict) out.old at result out.new }
     ensures upper_bound { result ≤ at + 80 }
 {
     match verdict {
-        Verdict::Accepted => write_word(out, at, b"accepted\n"),
-        Verdict::Refused(why) => write_refused(out, at, why),
+        Ok(()) => write_word(out, at, b"accepted\n"),
+        Err(why) => write_refused(out, at, why),
     }
 }

@@ -1,15 +1,14 @@
 -- The text of the bytes of a layout file as records: the image, or why not.
-use Rattle.std.specs.Prelude.{Bool, List, [], ◌∷◌, ◌++◌, ℕ, ◌+◌, ◌*◌, ◌/◌, eqb}
+use Rattle.std.specs.Prelude.{Bool, List, [], ◌∷◌, ◌++◌, ℕ, ◌+◌, ◌*◌, ◌/◌, eqb, Option, Result}
 use Rattle.prelude.specs.Pick.{pick}
-use Rattle.prelude.specs.declared.Opt.{Opt}
 use Rattle.prelude.specs.declared.Refusal.{Refusal}
 use Rattle.bankdef.specs.declared.Bankdefs.{Bankdefs}
 use Rattle.blocks.specs.Spans.{spans_of}
 use Rattle.blocks.specs.Walk.{block, blocks_of}
 use Rattle.blocks.specs.declared.Block.{Block}
 use Rattle.build_visits.specs.declared.Visit.{Visit}
-use Rattle.output.specs.declared.Build.{Build}
 use Rattle.output.specs.declared.Output.{Output}
+use Rattle.output.specs.declared.Built.{Built}
 use Rattle.form_build.specs.Filed.{file_output}
 use Rattle.print_text.specs.Ascii.{ascii}
 use Rattle.print_text.specs.Lines.{refusal_text}
@@ -37,12 +36,12 @@ abbrev pub done_text : Wanted → ℕ → List ℕ → List ℕ → List ℕ →
 done_text w bits offsets sized image = records_of w.format w.load image (blocks_by w.whole bits offsets sized)
 
 -- of a build over the visits of its last pass, and of a file's
-abbrev pub answer_text : Wanted → Bankdefs → List Visit → List ℕ → Build → List ℕ
+abbrev pub answer_text : Wanted → Bankdefs → List Visit → List ℕ → Result Built Refusal → List ℕ
 answer_text w = answer_by (λ k. done_text w)
 
 abbrev pub built_text : Wanted → List ℕ → Output → List ℕ
 built_text w = built_by (λ k. done_text w)
 
 -- The whole text for a file, what is wanted of it, a fill and a page size, if there is one.
-unfoldable pub records_text : Wanted → List ℕ → ℕ → Opt → List ℕ
+unfoldable pub records_text : Wanted → List ℕ → ℕ → Option ℕ → List ℕ
 records_text w file fill page = built_text w file (file_output file fill page lent_room)

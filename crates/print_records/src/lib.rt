@@ -1,7 +1,7 @@
 // A layout file's image as a file of records for the flash station: what the program behind tools/ihex and tools/srec prints.
 #![tactic(auto)]
 
-ghost use Rattle.std.specs.Prelude.{◌≡◌, true, ◌*◌, ◌≤◌, min, length};
+ghost use Rattle.std.specs.Prelude.{◌≡◌, true, ◌*◌, ◌≤◌, length};
 ghost use Rattle.prelude.specs.Limits.{max_nodes};
 ghost use Rattle.blocks.specs.Spans.{spans_of, acceptable};
 ghost use Rattle.blocks.specs.Walk.{blocks_of};
@@ -13,10 +13,8 @@ ghost use Rattle.prog_args.specs.Text.{Stands};
 ghost use Rattle.print_records.specs.Text.{refused_text, records_of, whole_blocks, done_text, records_text};
 ghost use Rattle.print_records.specs.Steps.{text_room, answered};
 
-use blocks::Blocks;
-use output::Build;
-use prelude::{Opt, Refusal};
-use record_write::Written;
+use output::Built;
+use prelude::Refusal;
 
 // Room for the image as records, a short one in each block.
 const TEXT: usize = 131_072;
@@ -41,8 +39,7 @@ fn put_refused(why: Refusal, out: &mut [u8]) -> usize
 
 // The text of blocks: their records, or why not. There is room for every file, so that 14 is not given.
 fn put_records(
-    format: u8,
-    load: u32,
+    wanted: Wanted,
     image: &[u8],
     offsets: &[u64],
     sizes: &[u64],
@@ -52,39 +49,31 @@ fn put_records(
     requires offsets_len_bound { length offsets.now ≤ span_room }
     requires offsets_len { length offsets.now ≡ length sizes.now }
     requires text_room_in_bounds { text_room ≤ length out.old }
-    ensures { Stands (records_of format load image.now (blocks_in offsets.now sizes.now)) out.old result out.new }
+    ensures { Stands (records_of wanted.format wanted.load image.now (blocks_in offsets.now sizes.now)) out.old result out.new }
 {
-    let written = record_write::write(format, image, offsets, sizes, load, out);
+    let written = record_write::write(wanted.format, image, offsets, sizes, wanted.load, out);
     match written {
-        Written::Refused(why) => put_refused(why, out),
-        Written::Length(length) => length as usize,
+        Err(why) => put_refused(why, out),
+        Ok(length) => length as usize,
     }
 }
 
-// One block where there are bits, else none.
-fn block_count(bits: u64) -> usize
-    ensures { result ≡ min bits 1 }
-{
-    if bits == 0 { 0 } else { 1 }
-}
-
-// The text of the whole image as one block. The last byte's unused bits are zero in the image.
-fn put_whole(format: u8, load: u32, bits: u64, image: &[u8], out: &mut [u8]) -> usize
+// The text of the whole image as one block, or none where it has no bit. The last byte's unused bits are zero in the image.
+fn put_whole(wanted: Wanted, bits: u64, image: &[u8], out: &mut [u8]) -> usize
     requires image_len_bound { length image.now ≤ image_room }
     requires bits_bound { bits ≤ 8 * image_room }
     requires text_room_in_bounds { text_room ≤ length out.old }
-    ensures { Stands (records_of format load image.now (whole_blocks bits)) out.old result out.new }
+    ensures { Stands (records_of wanted.format wanted.load image.now (whole_blocks bits)) out.old result out.new }
 {
     let offsets = [0u64];
     let sizes = [8 * ((bits + 7) / 8)];
-    let n = block_count(bits);
-    put_records(format, load, image, &offsets[..n], &sizes[..n], out)
+    let n = bits.min(1) as usize;
+    put_records(wanted, image, &offsets[..n], &sizes[..n], out)
 }
 
 // The text of the blocks of spans, with room for every block.
 fn put_blocks(
-    format: u8,
-    load: u32,
+    wanted: Wanted,
     image: &[u8],
     offsets: &[u64],
     sizes: &[u64],
@@ -97,22 +86,15 @@ fn put_blocks(
     requires block_offsets_len { length block_offsets.old ≡ max_nodes }
     requires block_sizes_len { length block_sizes.old ≡ max_nodes }
     requires text_room_in_bounds { text_room ≤ length out.old }
-    ensures { Stands (records_of format load image.now (blocks_of (spans_of offsets.now sizes.now)))
+    ensures { Stands (records_of wanted.format wanted.load image.now (blocks_of (spans_of offsets.now sizes.now)))
         out.old result out.new }
 {
     let found = blocks::get_blocks(offsets, sizes, block_offsets, block_sizes);
     match found {
-        Blocks::Refused(why) => prog_args::put_refusal(why, out),
-        Blocks::Found(count) => {
+        Err(why) => prog_args::put_refusal(why, out),
+        Ok(count) => {
             let n = count as usize;
-            put_records(
-                format,
-                load,
-                image,
-                &block_offsets[..n],
-                &block_sizes[..n],
-                out,
-            )
+            put_records(wanted, image, &block_offsets[..n], &block_sizes[..n], out)
         }
     }
 }
@@ -133,13 +115,12 @@ fn put_done(
     ensures { Stands (done_text wanted bits offsets.now sizes.now image.now) out.old result out.new }
 {
     if wanted.whole {
-        return put_whole(wanted.format, wanted.load, bits, image, out);
+        return put_whole(wanted, bits, image, out);
     }
     let mut block_offsets = [0u64; 4096];
     let mut block_sizes = [0u64; 4096];
     put_blocks(
-        wanted.format,
-        wanted.load,
+        wanted,
         image,
         offsets,
         sizes,
@@ -152,7 +133,7 @@ fn put_done(
 // The text of a build's answer, whose image and spans stand in what is lent.
 fn put_answer(
     wanted: Wanted,
-    build: Build,
+    build: Result<Built, Refusal>,
     image: &[u8],
     offsets: &[u64],
     sizes: &[u64],
@@ -164,14 +145,10 @@ fn put_answer(
     ensures { Stands (answered wanted build image.now offsets.now sizes.now) out.old result out.new }
 {
     match build {
-        Build::Refused(why) => prog_args::put_refusal(why, out),
-        Build::Done {
-            k: _,
-            length,
-            spans,
-        } => {
-            let n = spans as usize;
-            put_done(wanted, length, image, &offsets[..n], &sizes[..n], out)
+        Err(why) => prog_args::put_refusal(why, out),
+        Ok(built) => {
+            let n = built.spans as usize;
+            put_done(wanted, built.length, image, &offsets[..n], &sizes[..n], out)
         }
     }
 }
@@ -181,7 +158,7 @@ fn put_build(
     wanted: Wanted,
     file: &[u8],
     fill: u8,
-    page: Opt,
+    page: Option<u32>,
     image: &mut [u8],
     addresses: &mut [i64],
     offsets: &mut [u64],
@@ -201,7 +178,7 @@ fn put_build(
 }
 
 // Puts the text of a file. Lends room for the image and the spans.
-fn put_text(wanted: Wanted, file: &[u8], fill: u8, page: Opt, out: &mut [u8]) -> usize
+fn put_text(wanted: Wanted, file: &[u8], fill: u8, page: Option<u32>, out: &mut [u8]) -> usize
     requires { text_room ≤ length out.old }
     ensures { Stands (records_text wanted file.now fill page) out.old result out.new }
 {
@@ -223,7 +200,7 @@ fn put_text(wanted: Wanted, file: &[u8], fill: u8, page: Opt, out: &mut [u8]) ->
 }
 
 // Puts the text of a file into room for every text, 131,072 bytes; nothing into less.
-pub fn put_file(wanted: Wanted, file: &[u8], fill: u8, page: Opt, out: &mut [u8]) -> usize
+pub fn put_file(wanted: Wanted, file: &[u8], fill: u8, page: Option<u32>, out: &mut [u8]) -> usize
     ensures { text_room ≤ length out.old → Stands (records_text wanted file.now fill page) out.old result out.new }
 {
     if out.len() < TEXT {

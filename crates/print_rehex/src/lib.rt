@@ -4,16 +4,12 @@
 ghost use Rattle.std.specs.Prelude.{◌++◌, ◌≡◌, ◌≤◌, length};
 ghost use Rattle.print_text.specs.Lines.{refusal_text};
 ghost use Rattle.print_text.specs.Puts.{Puts};
-ghost use Rattle.print_text.specs.declared.Written.TheVariants.{To};
 ghost use Rattle.prog_args.specs.Text.{line_room, Stands};
 ghost use Rattle.record_scan.specs.Reading.{faulty, read_text};
 ghost use Rattle.print_rehex.specs.Rehex.{bytes_room, blocks_room, fault_text, turned_text};
 ghost use Rattle.print_rehex.specs.Steps.{text_room, Turns};
 
-use blocks::Blocks;
 use prelude::Refusal;
-use record_scan::Fault;
-use record_write::Written;
 
 // The longest file, and a byte more: what is as long as that is refused.
 const SOURCE: usize = 3_276_801;
@@ -38,7 +34,7 @@ fn turn(
     offsets: &mut [u64],
     sizes: &mut [u64],
     out: &mut [u8],
-) -> Written
+) -> Result<u64, Refusal>
     requires bytes_len { length bytes.old ≡ bytes_room }
     requires offsets_len { length offsets.old ≡ blocks_room }
     requires sizes_len { length sizes.old ≡ blocks_room }
@@ -48,8 +44,8 @@ fn turn(
     let mut scratch = [0u8; SCRATCH];
     let found = record_read::read(kind, source, load, bytes, offsets, sizes, &mut scratch);
     match found {
-        Blocks::Refused(why) => Written::Refused(why),
-        Blocks::Found(count) => {
+        Err(why) => Err(why),
+        Ok(count) => {
             let n = count as usize;
             record_write::write(format, bytes, &offsets[..n], &sizes[..n], load, out)
         }
@@ -60,7 +56,7 @@ fn turn(
 fn put_line(at: usize, line: u64, out: &mut [u8]) -> usize
     requires at_le_line_room { at ≤ line_room }
     requires text_room_in_bounds { text_room ≤ length out.old }
-    ensures { Puts (fault_text (faulty line)) out.old at (To result) out.new }
+    ensures { Puts (fault_text (faulty line)) out.old at (Some result) out.new }
 {
     let numbers = [line];
     print_text::write_line(out, at, b"line", &numbers)
@@ -75,8 +71,8 @@ fn put_fault(why: Refusal, kind: u8, load: u32, source: &[u8], out: &mut [u8]) -
     let mut scratch = [0u8; SCRATCH];
     let fault = record_scan::line_at_fault(kind, source, load, &mut scratch);
     match fault {
-        Fault::Good => at,
-        Fault::At(line) => put_line(at, line, out),
+        None => at,
+        Some(line) => put_line(at, line, out),
     }
 }
 
@@ -102,8 +98,8 @@ fn put_text(
     }
     let written = turn(kind, format, load, source, bytes, offsets, sizes, out);
     match written {
-        Written::Refused(why) => put_fault(why, kind, load, source, out),
-        Written::Length(length) => length as usize,
+        Err(why) => put_fault(why, kind, load, source, out),
+        Ok(length) => length as usize,
     }
 }
 

@@ -6,20 +6,17 @@ ghost use Rattle.print_text.specs.Puts.{Puts};
 ghost use Rattle.print_answer.specs.Answer.{image_room};
 ghost use Rattle.print_report.specs.Report.{span_room, report_text};
 
-use prelude::Opt;
-use print_text::Written;
-
 // Builds the file's layout in what is lent, and puts its text.
 fn put_build(
     file: &[u8],
     fill: u8,
-    page: Opt,
+    page: Option<u32>,
     image: &mut [u8],
     addresses: &mut [i64],
     offsets: &mut [u64],
     sizes: &mut [u64],
     out: &mut [u8],
-) -> Written
+) -> Option<usize>
     requires image_len { length image.old ≡ image_room }
     requires addresses_len { length addresses.old ≡ span_room }
     requires offsets_len { length offsets.old ≡ span_room }
@@ -33,7 +30,7 @@ fn put_build(
 
 // What the program prints for a file's bytes, a fill's choice and a page size, if there is one, put at the front of `out`. Lends room for the image and
 // the spans.
-pub fn report(file: &[u8], fill: u8, page: Opt, out: &mut [u8]) -> Written
+pub fn report(file: &[u8], fill: u8, page: Option<u32>, out: &mut [u8]) -> Option<usize>
     ensures { Puts (report_text file.now fill page) out.old 0 result out.new }
 {
     let mut image = [0u8; 16384];

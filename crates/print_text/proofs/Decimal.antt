@@ -1,11 +1,14 @@
 -- Theorems about what Decimal defines: its digits are those of the tenth and the last one, and what they stand for.
-use Rattle.std.specs.Prelude.{◌≡◌, List, [], ◌∷◌, ◌++◌, ℕ, zero, suc, ◌+◌, ◌-◌, ◌*◌, ◌/◌, ◌%◌, ◌≤◌, ◌<◌, length, get_or}
+use Rattle.std.specs.Prelude.{◌≡◌, List, [], ◌∷◌, ◌++◌, ℕ, zero, suc, ◌+◌, ◌-◌, ◌*◌, ◌/◌, ◌%◌, ◌^◌, ◌≤◌, ◌<◌, max, length, get_or}
 use Rattle.std.proofs.Common.{sym, ap, ◌∙◌, arith, length-append, le-ltb}
 use Rattle.std.proofs.Math.Decide.{dec_lt}
 use Rattle.std.proofs.Math.ListN.{get_or-append}
+use Rattle.std.proofs.Math.Nat.{pow-suc}
+use Rattle.std.proofs.lemmas.Nat.{le-div}
 use Rattle.prelude.specs.Laws.Pick.{pick-false}
 use Rattle.print_text.specs.Decimal.{decimal, digit, digits_in, value_from}
-use Rattle.print_text.specs.Laws.Decimal.{by-tens, decimal-few, few, value_from-last}
+use Rattle.print_text.specs.Laws.Decimal.{by-tens, decimal-few, few, length-few, value_from-last}
+use Rattle.print_text.specs.Theorems.Decimal.{decimal-length}
 
 more : (steps n : ℕ) → 10 ≤ n → digits_in (suc steps) n ≡ digits_in steps (n / 10) ++ (digit (n % 10) ∷ [])
 unfolding digits_in
@@ -64,3 +67,34 @@ decimal-leads =
     (λ n h ih k.
     let some : 0 < length (decimal (n / 10)) = decimal-some (n / 10) in
     rw (decimal-more n h, get_or-append (decimal (n / 10)) (digit (n % 10) ∷ []) 0 0 some) (ih (omega arith)))
+
+ones : (k : ℕ) → 1 ≤ 10 ^ k
+ones zero = omega arith
+ones (suc k) = omega (arith, pow-suc 10 k, ones k)
+
+-- A number that a power of ten is not above has more digits than the power has zeros.
+decimal-long : (k n : ℕ) → 10 ^ k ≤ n → suc k ≤ length (decimal n)
+decimal-long zero n h = omega (arith, decimal-some n)
+decimal-long (suc k) n h =
+    let power : 10 ^ k * 10 ≤ n = omega (arith, h, pow-suc 10 k) in
+    let one : 1 ≤ 10 ^ k = ones k in
+    omega (arith, length_more n (omega arith), decimal-long k (n / 10) (le-div (10 ^ k) n 10 (omega arith) power))
+
+-- So many digits has a number that stands between two powers of ten, and so many 0.
+pub decimal-between : (k n : ℕ) → 10 ^ k ≤ max n 1 → max n 1 < 10 * 10 ^ k → length (decimal n) ≡ k + 1
+decimal-between k n low high =
+    elim (dec_lt 0 n) [
+      | yes h ↦
+          let whole : max n 1 ≡ n = omega arith in
+          let some = decimal-long k n (omega arith) in
+          let few = decimal-length k n (omega (arith, pow-suc 10 k)) in
+          omega arith
+      | no h ↦
+          let none : n < 10 = omega arith in
+          let power : 10 ^ k < 2 = omega arith in
+          omega (arith, length-few n none, zeros k power)
+    ]
+  where
+    zeros : (k : ℕ) → 10 ^ k < 2 → k ≡ 0
+    zeros zero h = omega arith
+    zeros (suc k) h = absurd (omega (arith, h, pow-suc 10 k, ones k))

@@ -1,13 +1,11 @@
 -- Text in a lent buffer: where it ends, and what stands in the buffer afterwards. Document 01: "Each refusal .. changes nothing lent."
-use Rattle.std.specs.Prelude.{◌≡◌, List, ◌++◌, ℕ, ◌+◌, leb, length, take, drop}
+use Rattle.std.specs.Prelude.{◌≡◌, List, ◌++◌, ℕ, ◌+◌, leb, length, take, drop, Option, Some, None}
 use Rattle.std.proofs.lemmas.List.Edits.{sets}
 use Rattle.prelude.specs.Pick.{pick}
-use Rattle.print_text.specs.declared.Written.{Written}
-use Rattle.print_text.specs.declared.Written.TheVariants.{To, TooShort}
 
 -- Where text of `len` bytes that starts at `at` ends, in a buffer of `size` bytes; or that it does not fit.
-abbrev pub end_of : ℕ → ℕ → ℕ → Written
-end_of size at len = pick (leb (at + len) size) (To (at + len)) TooShort
+abbrev pub end_of : ℕ → ℕ → ℕ → Option ℕ
+end_of size at len = pick (leb (at + len) size) (Some (at + len)) None
 
 -- The buffer with text in it from `at` on: what stood before it and behind it is as it was.
 abbrev pub with_text : List ℕ → ℕ → List ℕ → List ℕ
@@ -23,6 +21,6 @@ pub record Writes (text old : List ℕ) (at end : ℕ) (new : List ℕ) : Type 0
   pub buffer : new ≡ sets old at text
 
 -- What each function that writes promises, of the text that it is to write: its answer, and every byte of the buffer.
-pub record Puts (text old : List ℕ) (at : ℕ) (answer : Written) (new : List ℕ) : Type 0 where
+pub record Puts (text old : List ℕ) (at : ℕ) (answer : Option ℕ) (new : List ℕ) : Type 0 where
   pub place : answer ≡ end_of (length old) at (length text)
   pub buffer : new ≡ buffer_after old at text

@@ -2,31 +2,24 @@
 // as it was. Room is measured first, then written.
 #![tactic(auto)]
 
-ghost use Rattle.std.specs.Prelude.{◌≡◌, [], ◌∷◌, ◌+◌, ◌<◌, ◌≤◌, min, leb, length};
+ghost use Rattle.std.specs.Prelude.{◌≡◌, [], ◌∷◌, ◌+◌, ◌<◌, ◌≤◌, leb, length};
 ghost use Rattle.print_text.specs.Decimal.{digit, decimal};
 ghost use Rattle.print_text.specs.Puts.{end_of, Writes, Puts};
 ghost use Rattle.print_text.specs.Lines.{block_word, spaced, line, passes_text, refusal_text, blocks_text, image_text, layout_text};
 
 use prelude::{Place, Refusal};
 
-// Where the text ends in the buffer, or that the buffer is too short for it.
-#[derive(Clone, Copy)]
-pub enum Written {
-    To(usize),
-    TooShort,
-}
-
 // Where text of `len` bytes at `at` ends in a buffer of `size` bytes.
-fn end_of(size: usize, at: usize, len: usize) -> Written
+fn end_of(size: usize, at: usize, len: usize) -> Option<usize>
     ensures { result ≡ end_of size at len }
 {
     if len > size {
-        return Written::TooShort;
+        return None;
     }
     if at > size - len {
-        return Written::TooShort;
+        return None;
     }
-    Written::To(at + len)
+    Some(at + len)
 }
 
 // How many digits a number has.
@@ -34,13 +27,7 @@ fn decimal_length(n: u64) -> usize
     ensures value { result ≡ length (decimal n) }
     ensures upper_bound { result ≤ 20 }
 {
-    let mut left = n;
-    let mut len = 1;
-    while left >= 10 {
-        left /= 10;
-        len += 1;
-    }
-    len
+    n.max(1).ilog10() as usize + 1
 }
 
 // The digit of a number below 10, in ASCII.
@@ -56,10 +43,9 @@ pub fn write_word(out: &mut [u8], at: usize, word: &[u8]) -> usize
     requires { at + length word.now ≤ length out.old }
     ensures { Writes word.now out.old at result out.new }
 {
-    for i in 0..word.len() {
-        out[at + i] = word[i];
-    }
-    at + word.len()
+    let end = at + word.len();
+    out[at..end].copy_from_slice(word);
+    end
 }
 
 // Writes a number that is known to fit, from its last digit to its first.
@@ -70,6 +56,7 @@ pub fn write_number(out: &mut [u8], at: usize, n: u64) -> usize
     let end = at + decimal_length(n);
     let mut left = n;
     let mut i = end - 1;
+    // stays: the digits come from the last to the first, and of what is written through `iter_mut().rev()` only the length is known
     while left >= 10 {
         out[i] = ascii(left % 10);
         left /= 10;
@@ -80,18 +67,13 @@ pub fn write_number(out: &mut [u8], at: usize, n: u64) -> usize
 }
 
 // Where a line of a word of `word` bytes and of numbers ends.
-fn line_end(size: usize, at: usize, word: usize, numbers: &[u64]) -> Written
+fn line_end(size: usize, at: usize, word: usize, numbers: &[u64]) -> Option<usize>
     ensures { result ≡ end_of size at (word + length (spaced numbers.now) + 1) }
 {
-    let Written::To(start) = end_of(size, at, word) else {
-        return Written::TooShort;
-    };
+    let start = end_of(size, at, word)?;
     let mut end = start;
-    for i in 0..numbers.len() {
-        let len = decimal_length(numbers[i]);
-        let Written::To(next) = end_of(size, end, len + 1) else {
-            return Written::TooShort;
-        };
+    for &n in numbers {
+        let next = end_of(size, end, decimal_length(n) + 1)?;
         end = next;
     }
     end_of(size, end, 1)
@@ -103,9 +85,9 @@ pub fn write_numbers(out: &mut [u8], at: usize, numbers: &[u64]) -> usize
     ensures { Writes (spaced numbers.now) out.old at result out.new }
 {
     let mut end = at;
-    for i in 0..numbers.len() {
+    for &n in numbers {
         out[end] = b' ';
-        end = write_number(out, end + 1, numbers[i]);
+        end = write_number(out, end + 1, n);
     }
     end
 }
@@ -122,76 +104,54 @@ pub fn write_line(out: &mut [u8], at: usize, word: &[u8], numbers: &[u64]) -> us
 }
 
 // A block's line.
-fn block_end(size: usize, at: usize, offset: u64, len: u64) -> Written
+fn block_end(size: usize, at: usize, offset: u64, len: u64) -> Option<usize>
     ensures { result ≡ end_of size at (length (line block_word (offset ∷ len ∷ []))) }
 {
-    let numbers = [offset, len];
-    line_end(size, at, 5, &numbers)
+    line_end(size, at, 5, &[offset, len])
 }
 
 fn write_block(out: &mut [u8], at: usize, offset: u64, len: u64) -> usize
     requires { at + length (line block_word (offset ∷ len ∷ [])) ≤ length out.old }
     ensures { Writes (line block_word (offset ∷ len ∷ [])) out.old at result out.new }
 {
-    let numbers = [offset, len];
-    write_line(out, at, b"block", &numbers)
+    write_line(out, at, b"block", &[offset, len])
 }
 
 // Where the lines of the first `count` blocks end.
-fn blocks_end(size: usize, at: usize, offsets: &[u64], sizes: &[u64], count: usize) -> Written
-    requires count_in_bounds { count ≤ length offsets.now }
-    requires count_in_bounds_2 { count ≤ length sizes.now }
+fn blocks_end(size: usize, at: usize, offsets: &[u64], sizes: &[u64], count: usize) -> Option<usize>
     ensures { result ≡ end_of size at (length (blocks_text count offsets.now sizes.now)) }
 {
     let mut end = at;
-    for i in 0..count {
-        let Written::To(next) = block_end(size, end, offsets[i], sizes[i]) else {
-            return Written::TooShort;
-        };
+    for (&offset, &len) in offsets.iter().zip(sizes.iter()).take(count) {
+        let next = block_end(size, end, offset, len)?;
         end = next;
     }
     end_of(size, end, 0)
 }
 
 fn write_blocks(out: &mut [u8], at: usize, offsets: &[u64], sizes: &[u64], count: usize) -> usize
-    requires count_in_bounds { count ≤ length offsets.now }
-    requires count_in_bounds_2 { count ≤ length sizes.now }
     requires sizes_in_bounds { at + length (blocks_text count offsets.now sizes.now) ≤ length out.old }
     ensures { Writes (blocks_text count offsets.now sizes.now) out.old at result out.new }
 {
     let mut end = at;
-    for i in 0..count {
-        end = write_block(out, end, offsets[i], sizes[i]);
+    for (&offset, &len) in offsets.iter().zip(sizes.iter()).take(count) {
+        end = write_block(out, end, offset, len);
     }
     end
-}
-
-// How many of `count` blocks both slices have.
-fn lent(count: usize, offsets: usize, sizes: usize) -> usize
-    ensures { result ≡ min count (min offsets sizes) }
-{
-    let mut n = count;
-    if offsets < n {
-        n = offsets;
-    }
-    if sizes < n {
-        n = sizes;
-    }
-    n
 }
 
 // The image's line: its length, and the line.
 fn image_length(hex: &[u8]) -> usize
     ensures { result ≡ length (image_text hex.now) }
 {
-    if hex.len() == 0 { 6 } else { hex.len() + 7 }
+    if hex.is_empty() { 6 } else { hex.len() + 7 }
 }
 
 fn write_image(out: &mut [u8], at: usize, hex: &[u8]) -> usize
     requires { at + length (image_text hex.now) ≤ length out.old }
     ensures { Writes (image_text hex.now) out.old at result out.new }
 {
-    if hex.len() == 0 {
+    if hex.is_empty() {
         return write_word(out, at, b"image\n");
     }
     let start = write_word(out, at, b"image ");
@@ -208,18 +168,11 @@ fn layout_end(
     sizes: &[u64],
     count: usize,
     hex: &[u8],
-) -> Written
-    requires count_in_bounds { count ≤ length offsets.now }
-    requires count_in_bounds_2 { count ≤ length sizes.now }
+) -> Option<usize>
     ensures { result ≡ end_of size at (length (layout_text k count offsets.now sizes.now hex.now)) }
 {
-    let numbers = [k];
-    let Written::To(first) = line_end(size, at, 6, &numbers) else {
-        return Written::TooShort;
-    };
-    let Written::To(second) = blocks_end(size, first, offsets, sizes, count) else {
-        return Written::TooShort;
-    };
+    let first = line_end(size, at, 6, &[k])?;
+    let second = blocks_end(size, first, offsets, sizes, count)?;
     end_of(size, second, image_length(hex))
 }
 
@@ -232,61 +185,46 @@ fn write_layout(
     count: usize,
     hex: &[u8],
 ) -> usize
-    requires count_in_bounds { count ≤ length offsets.now }
-    requires count_in_bounds_2 { count ≤ length sizes.now }
     requires hex_in_bounds { at + length (layout_text k count offsets.now sizes.now hex.now) ≤ length out.old }
     ensures { Writes (layout_text k count offsets.now sizes.now hex.now) out.old at result out.new }
 {
-    let numbers = [k];
-    let first = write_line(out, at, b"passes", &numbers);
+    let first = write_line(out, at, b"passes", &[k]);
     let second = write_blocks(out, first, offsets, sizes, count);
     write_image(out, second, hex)
 }
 
 // Bytes, as they are.
-pub fn put_word(out: &mut [u8], at: usize, word: &[u8]) -> Written
+pub fn put_word(out: &mut [u8], at: usize, word: &[u8]) -> Option<usize>
     ensures { Puts word.now out.old at result out.new }
 {
-    if let Written::TooShort = end_of(out.len(), at, word.len()) {
-        return Written::TooShort;
-    }
-    Written::To(write_word(out, at, word))
+    end_of(out.len(), at, word.len())?;
+    Some(write_word(out, at, word))
 }
 
 // A number in decimal digits, without leading zeros.
-pub fn put_number(out: &mut [u8], at: usize, n: u64) -> Written
+pub fn put_number(out: &mut [u8], at: usize, n: u64) -> Option<usize>
     ensures { Puts (decimal n) out.old at result out.new }
 {
-    if let Written::TooShort = end_of(out.len(), at, decimal_length(n)) {
-        return Written::TooShort;
-    }
-    Written::To(write_number(out, at, n))
+    end_of(out.len(), at, decimal_length(n))?;
+    Some(write_number(out, at, n))
 }
 
 // A line: a word, numbers after it with a space before each, and LF.
-pub fn put_line(out: &mut [u8], at: usize, word: &[u8], numbers: &[u64]) -> Written
+pub fn put_line(out: &mut [u8], at: usize, word: &[u8], numbers: &[u64]) -> Option<usize>
     ensures { Puts (line word.now numbers.now) out.old at result out.new }
 {
-    if let Written::TooShort = line_end(out.len(), at, word.len(), numbers) {
-        return Written::TooShort;
-    }
-    Written::To(write_line(out, at, word, numbers))
+    line_end(out.len(), at, word.len(), numbers)?;
+    Some(write_line(out, at, word, numbers))
 }
 
 // `refused`, the number and the place.
-pub fn put_refusal(out: &mut [u8], at: usize, refusal: Refusal) -> Written
+pub fn put_refusal(out: &mut [u8], at: usize, refusal: Refusal) -> Option<usize>
     ensures { Puts (refusal_text refusal) out.old at result out.new }
 {
     let number = prelude::number(refusal);
     match prelude::place_of(refusal) {
-        Place::One(p) => {
-            let numbers = [number, p];
-            put_line(out, at, b"refused", &numbers)
-        }
-        Place::Two(p, q) => {
-            let numbers = [number, p, q];
-            put_line(out, at, b"refused", &numbers)
-        }
+        Place::One(p) => put_line(out, at, b"refused", &[number, p]),
+        Place::Two(p, q) => put_line(out, at, b"refused", &[number, p, q]),
     }
 }
 
@@ -297,17 +235,16 @@ pub fn write_refusal(out: &mut [u8], at: usize, why: Refusal) -> usize
     ensures upper_bound { result ≤ at + 71 }
 {
     match put_refusal(out, at, why) {
-        Written::To(end) => end,
-        Written::TooShort => at,
+        Some(end) => end,
+        None => at,
     }
 }
 
 // `passes` and K.
-pub fn put_passes(out: &mut [u8], at: usize, k: u64) -> Written
+pub fn put_passes(out: &mut [u8], at: usize, k: u64) -> Option<usize>
     ensures { Puts (passes_text k) out.old at result out.new }
 {
-    let numbers = [k];
-    put_line(out, at, b"passes", &numbers)
+    put_line(out, at, b"passes", &[k])
 }
 
 // A line for each of the first `count` blocks.
@@ -317,24 +254,19 @@ pub fn put_blocks(
     offsets: &[u64],
     sizes: &[u64],
     count: usize,
-) -> Written
+) -> Option<usize>
     ensures { Puts (blocks_text count offsets.now sizes.now) out.old at result out.new }
 {
-    let n = lent(count, offsets.len(), sizes.len());
-    if let Written::TooShort = blocks_end(out.len(), at, offsets, sizes, n) {
-        return Written::TooShort;
-    }
-    Written::To(write_blocks(out, at, offsets, sizes, n))
+    blocks_end(out.len(), at, offsets, sizes, count)?;
+    Some(write_blocks(out, at, offsets, sizes, count))
 }
 
 // `image` and the hex digits, or `image` alone.
-pub fn put_image(out: &mut [u8], at: usize, hex: &[u8]) -> Written
+pub fn put_image(out: &mut [u8], at: usize, hex: &[u8]) -> Option<usize>
     ensures { Puts (image_text hex.now) out.old at result out.new }
 {
-    if let Written::TooShort = end_of(out.len(), at, image_length(hex)) {
-        return Written::TooShort;
-    }
-    Written::To(write_image(out, at, hex))
+    end_of(out.len(), at, image_length(hex))?;
+    Some(write_image(out, at, hex))
 }
 
 // All that is printed of a layout that is not refused: `passes`, a line for each block, `image`.
@@ -346,12 +278,9 @@ pub fn put_layout(
     sizes: &[u64],
     count: usize,
     hex: &[u8],
-) -> Written
+) -> Option<usize>
     ensures { Puts (layout_text k count offsets.now sizes.now hex.now) out.old at result out.new }
 {
-    let n = lent(count, offsets.len(), sizes.len());
-    if let Written::TooShort = layout_end(out.len(), at, k, offsets, sizes, n, hex) {
-        return Written::TooShort;
-    }
-    Written::To(write_layout(out, at, k, offsets, sizes, n, hex))
+    layout_end(out.len(), at, k, offsets, sizes, count, hex)?;
+    Some(write_layout(out, at, k, offsets, sizes, count, hex))
 }

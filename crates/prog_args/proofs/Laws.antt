@@ -1,9 +1,8 @@
 -- Laws of digits, one after the other: a law for each way that a turn of the loop goes.
-use Rattle.std.specs.Prelude.{◌≡◌, List, ℕ, ◌+◌, ◌*◌, ◌≤◌, ◌<◌, length, drop, get_or}
+use Rattle.std.specs.Prelude.{◌≡◌, List, ℕ, ◌+◌, ◌*◌, ◌≤◌, ◌<◌, length, drop, get_or, None, Some}
 use Rattle.std.proofs.Common.{add-one, drop-cons, drop_of_length-le, le-leb, le-ltb, lt-ltb}
 use Rattle.prelude.specs.Limits.{max_position}
 use Rattle.prelude.specs.Laws.Pick.{pick_true, pick-false}
-use Rattle.prelude.specs.declared.Opt.TheVariants.{None, Some}
 use Rattle.prog_args.specs.Number.{digit_value, number_from, spelled_in}
 
 pub some-text : (base : ℕ) (l : List ℕ) (i : ℕ) → i < length l → spelled_in base (drop i l) ≡ number_from base 0 (drop i l)

@@ -4,16 +4,15 @@
 // fails ends the input, and a write that fails leaves the rest unwritten.
 #![tactic(auto)]
 
-ghost use Rattle.std.specs.Prelude.{◌≡◌, ◌+◌, ◌*◌, ◌≤◌, min, length, drop};
+ghost use Rattle.std.specs.Prelude.{◌≡◌, ◌+◌, ◌*◌, ◌≤◌, min, length};
 ghost use Rattle.prog_args.specs.Counts.{IsPrefixLen};
 ghost use Rattle.prelude.specs.Limits.{max_position};
 ghost use Rattle.prelude.specs.Refusals.{number_of};
 ghost use Rattle.print_text.specs.Lines.{refusal_text};
-ghost use Rattle.prog_args.specs.Number.{digit_value, base_of, spelled_in, is_hex, number_in, Spelled};
+ghost use Rattle.prog_args.specs.Number.{digit_value, base_of, spelled_in, number_in, Spelled};
 ghost use Rattle.prog_args.specs.Text.{line_room, Stands, Shows};
 
-use prelude::{Opt, Refusal};
-use print_text::Written;
+use prelude::Refusal;
 use std::env::FillError;
 use std::io::Read;
 use std::rt::Env;
@@ -23,6 +22,7 @@ pub fn read_full(from: &mut impl Read, buf: &mut [u8]) -> usize
     ensures { IsPrefixLen result buf.new }
 {
     let mut done = 0;
+    // stays: each read says itself how many bytes it put
     while done < buf.len() {
         let Ok(n) = from.read(&mut buf[done..]) else {
             break;
@@ -48,12 +48,7 @@ fn is_missing(rt: &impl Env, i: usize) -> bool {
 pub fn arg_count(rt: &impl Env, most: usize) -> usize
     ensures { result ≤ most }
 {
-    for i in 0..most {
-        if is_missing(rt, i) {
-            return i;
-        }
-    }
-    most
+    (0..most).find(|&i| is_missing(rt, i)).unwrap_or(most)
 }
 
 // Puts argument `i` at the front of a buffer, and answers its length: 0 where it is missing or longer than the buffer.
@@ -71,34 +66,18 @@ fn digit_value(c: u8) -> u64
     ensures value { result ≡ digit_value c }
     ensures upper_bound { result ≤ 16 }
 {
-    if c < b'0' {
-        return 16;
+    match c {
+        b'0'..=b'9' => u64::from(c - b'0'),
+        b'A'..=b'F' => u64::from(c - b'A') + 10,
+        b'a'..=b'f' => u64::from(c - b'a') + 10,
+        _ => 16,
     }
-    if c <= b'9' {
-        return (c - b'0') as u64;
-    }
-    if c < b'A' {
-        return 16;
-    }
-    if c <= b'F' {
-        return (c - 55) as u64;
-    }
-    if c < b'a' {
-        return 16;
-    }
-    if c <= b'f' {
-        return (c - 87) as u64;
-    }
-    16
 }
 
 fn base_of(hex: bool) -> u64
     ensures { result ≡ base_of hex }
 {
-    if hex {
-        return 16;
-    }
-    10
+    if hex { 16 } else { 10 }
 }
 
 // A number with a digit more.
@@ -107,61 +86,46 @@ fn longer(hex: bool, value: u64, digit: u64) -> u64
     ensures { result ≡ base_of hex * value + digit }
 {
     if hex {
-        return 16 * value + digit;
+        16 * value + digit
+    } else {
+        10 * value + digit
     }
-    10 * value + digit
 }
 
-// The number that the digits of a text from `from` on spell.
-fn spelled(text: &[u8], from: usize, hex: bool) -> Opt
-    ensures { result ≡ spelled_in (base_of hex) (drop from text.now) }
+// The number that the digits of a text spell.
+fn spelled(text: &[u8], hex: bool) -> Option<u32>
+    ensures { result ≡ spelled_in (base_of hex) text.now }
 {
-    if text.len() <= from {
-        return Opt::None;
+    if text.is_empty() {
+        return None;
     }
     let base = base_of(hex);
     let mut value: u64 = 0;
-    for i in from..text.len() {
-        let digit = digit_value(text[i]);
+    for &c in text {
+        let digit = digit_value(c);
         if base <= digit {
-            return Opt::None;
+            return None;
         }
         value = longer(hex, value, digit);
         if value > 4_294_967_295 {
-            return Opt::None;
+            return None;
         }
     }
-    Opt::Some(value as u32)
-}
-
-// Whether a text begins with 0x or 0X.
-fn is_hex(text: &[u8]) -> bool
-    ensures { result ≡ is_hex text.now }
-{
-    if text.len() < 2 {
-        return false;
-    }
-    if text[0] != b'0' {
-        return false;
-    }
-    if text[1] == b'x' {
-        return true;
-    }
-    text[1] == b'X'
+    Some(value as u32)
 }
 
 // The number that a text spells in decimal digits, or in hexadecimal ones behind 0x, up to 4,294,967,295; none for any other text, the empty one too.
-pub fn number(text: &[u8]) -> Opt
+pub fn number(text: &[u8]) -> Option<u32>
     ensures { result ≡ number_in text.now }
 {
-    if is_hex(text) {
-        return spelled(text, 2, true);
+    match text {
+        [b'0', b'x' | b'X', digits @ ..] => spelled(digits, true),
+        _ => spelled(text, false),
     }
-    spelled(text, 0, false)
 }
 
 // The number that argument i spells; none where it is missing. No contract can say which text the argument is.
-pub fn number_at(rt: &impl Env, i: usize) -> Opt
+pub fn number_at(rt: &impl Env, i: usize) -> Option<u32>
     ensures { Spelled result }
 {
     let mut word = [0u8; 16];
@@ -174,28 +138,21 @@ pub fn within(count: u64, list: &[u64]) -> usize
     ensures value { result ≡ min count (length list.now) }
     ensures prefix_len { IsPrefixLen result list.now }
 {
-    if count < list.len() as u64 {
-        return count as usize;
-    }
-    list.len()
+    front(count, list)
 }
 
-// The same of bytes.
-fn bytes_within(count: u64, text: &[u8]) -> usize
-    ensures value { result ≡ min count (length text.now) }
-    ensures prefix_len { IsPrefixLen result text.now }
+// The same of any elements.
+fn front<T: Copy>(count: u64, list: &[T]) -> usize
+    ensures { result ≡ min count (length list.now) }
 {
-    if count < text.len() as u64 {
-        return count as usize;
-    }
-    text.len()
+    count.min(list.len() as u64) as usize
 }
 
 // Hands the first bytes of a text to standard output, and answers how many.
 pub fn print(rt: &impl Print, text: &[u8], count: u64) -> usize
     ensures { result ≡ min count (length text.now) }
 {
-    let n = bytes_within(count, text);
+    let n = front(count, text);
     let _ = rt.write_all(&text[..n]);
     n
 }
@@ -206,10 +163,7 @@ pub fn put_refusal(why: Refusal, out: &mut [u8]) -> usize
     ensures stands { Stands (refusal_text why) out.old result out.new }
     ensures upper_bound { result ≤ line_room }
 {
-    let Written::To(end) = print_text::put_refusal(out, 0, why) else {
-        return 0;
-    };
-    end
+    print_text::write_refusal(out, 0, why)
 }
 
 // Hands a refusal's line on from the front of a buffer, and answers how many bytes.

@@ -13,8 +13,7 @@ ghost use Rattle.says.specs.Texts.{ConvertText};
 ghost use Rattle.prog_convert.specs.Program.{Handed};
 ghost use Rattle.prog_convert.specs.Room.{Held};
 
-use form_convert::Conversion;
-use prelude::Opt;
+use prelude::Refusal;
 
 // Room for the longest file and a byte more, so that none is cut to a sound one.
 const FILE: usize = 65_537;
@@ -27,16 +26,16 @@ pub struct Ran {
 }
 
 // Hands an answer on: the file that stands in the front of the buffer, or the refusal's line. How many bytes that is.
-fn hand(rt: &impl Print, answer: Conversion, out: &mut [u8]) -> usize
+fn hand(rt: &impl Print, answer: Result<u64, Refusal>, out: &mut [u8]) -> usize
     requires { file_room ≤ length out.old }
     ensures { Handed answer out.old result out.new }
 {
     match answer {
-        Conversion::Refused(why) => {
+        Err(why) => {
             let end = print_text::write_refusal(out, 0, why);
             prog_args::print(rt, out, end as u64)
         }
-        Conversion::Converted(length) => prog_args::print(rt, out, length),
+        Ok(length) => prog_args::print(rt, out, length),
     }
 }
 
@@ -86,7 +85,7 @@ fn start(rt: &(impl Input + Print), form: u32, file: &mut [u8; FILE], out: &mut 
 }
 
 fn main(rt: HostRuntime) {
-    let Opt::Some(form) = prog_args::number_at(&rt, 1) else {
+    let Some(form) = prog_args::number_at(&rt, 1) else {
         return;
     };
     if form < 1 {

@@ -9,7 +9,6 @@ ghost use Rattle.std.specs.Prelude.{take};
 ghost use Rattle.says.specs.Lines.{Shows};
 ghost use Rattle.says.specs.MapText.{MapText};
 
-use prelude::Opt;
 use prog_asked::Asked;
 
 // Room for the longest file and a byte more, so that none is cut to a sound one.
@@ -26,7 +25,7 @@ pub struct Ran {
 }
 
 // The map's text of a file, handed to standard output from the front of `text`, which has room for any: how many bytes it is.
-fn write(rt: &impl Print, file: &[u8], fill: u8, page: Opt, text: &mut [u8; TEXT]) -> usize
+fn write(rt: &impl Print, file: &[u8], fill: u8, page: Option<u32>, text: &mut [u8; TEXT]) -> usize
     ensures { Shows (MapText file.now fill page) result text.new }
 {
     let end = print_map::write_map(file, fill, page, text);
@@ -37,7 +36,7 @@ fn write(rt: &impl Print, file: &[u8], fill: u8, page: Opt, text: &mut [u8; TEXT
 fn run(
     rt: &(impl Input + Print),
     fill: u8,
-    page: Opt,
+    page: Option<u32>,
     file: &mut [u8],
     text: &mut [u8; TEXT],
 ) -> Ran
@@ -49,7 +48,7 @@ fn run(
 }
 
 fn main(rt: HostRuntime) {
-    if let Asked::Layout { fill, page } = prog_asked::layout_asked(&rt) {
+    if let Some(Asked { fill, page }) = prog_asked::layout_asked(&rt) {
         let mut file = [0u8; FILE];
         let mut text = [0u8; TEXT];
         run(&rt, fill, page, &mut file, &mut text);

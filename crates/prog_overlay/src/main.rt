@@ -15,7 +15,6 @@ ghost use Rattle.std.specs.Str.{IsUtf8};
 ghost use Rattle.says.specs.Bench.{BenchSays};
 ghost use Rattle.says.specs.Lines.{Shows};
 
-use prelude::Opt;
 use std::fs::File;
 use std::io::Read;
 use std::rt::Files;
@@ -198,17 +197,17 @@ fn open<R: Files + Eprint>(rt: &R, name: &[u8]) -> Option<R::File>
 }
 
 fn main(rt: HostRuntime) {
-    let Opt::Some(load) = prog_args::number_at(&rt, 3) else {
+    let Some(load) = prog_args::number_at(&rt, 3) else {
         return;
     };
     let all = prog_args::arg_count(&rt, 5) == 4;
     let mut at = 0;
     let mut count = 0;
     if !all {
-        let Opt::Some(first) = prog_args::number_at(&rt, 4) else {
+        let Some(first) = prog_args::number_at(&rt, 4) else {
             return;
         };
-        let Opt::Some(n) = prog_args::number_at(&rt, 5) else {
+        let Some(n) = prog_args::number_at(&rt, 5) else {
             return;
         };
         at = first;

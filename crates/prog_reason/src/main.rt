@@ -12,7 +12,7 @@ ghost use Rattle.meets_texts.specs.Printed.{reason_text};
 ghost use Rattle.says.specs.Lines.{Shows};
 ghost use Rattle.says.specs.Texts.{ReasonText};
 
-use prelude::{Opt, Refusal};
+use prelude::Refusal;
 use prog_asked::choice;
 
 // The longest file that tools/rehex and tools/bench read, and a byte more, so that nothing is cut to a sound file.
@@ -79,10 +79,10 @@ fn main(rt: HostRuntime) {
     if count > 3 {
         return;
     }
-    let Opt::Some(kind) = prog_args::number_at(&rt, 1) else {
+    let Some(kind) = prog_args::number_at(&rt, 1) else {
         return;
     };
-    let Opt::Some(load) = prog_args::number_at(&rt, 2) else {
+    let Some(load) = prog_args::number_at(&rt, 2) else {
         return;
     };
     let mut source = [0u8; SOURCE];

@@ -13,7 +13,6 @@ ghost use Rattle.print_records.specs.Steps.{text_room};
 ghost use Rattle.says.specs.Lines.{Shows};
 ghost use Rattle.says.specs.RecordsText.{RecordsSay};
 
-use prelude::Opt;
 use print_records::Wanted;
 use prog_asked::choice;
 
@@ -31,7 +30,7 @@ pub struct Ran {
 }
 
 // The text of a file, put at the front of `out`: how many bytes it is.
-pub fn put_file(wanted: Wanted, file: &[u8], fill: u8, page: Opt, out: &mut [u8]) -> usize
+pub fn put_file(wanted: Wanted, file: &[u8], fill: u8, page: Option<u32>, out: &mut [u8]) -> usize
     requires { text_room ≤ length out.old }
     ensures { Shows (RecordsSay wanted.format wanted.load wanted.whole file.now fill page) result out.new }
 {
@@ -39,7 +38,14 @@ pub fn put_file(wanted: Wanted, file: &[u8], fill: u8, page: Opt, out: &mut [u8]
 }
 
 // The same, handed to standard output.
-fn write(rt: &impl Print, wanted: Wanted, file: &[u8], fill: u8, page: Opt, out: &mut [u8]) -> usize
+fn write(
+    rt: &impl Print,
+    wanted: Wanted,
+    file: &[u8],
+    fill: u8,
+    page: Option<u32>,
+    out: &mut [u8],
+) -> usize
     requires { text_room ≤ length out.old }
     ensures { Shows (RecordsSay wanted.format wanted.load wanted.whole file.now fill page) result out.new }
 {
@@ -52,7 +58,7 @@ fn run(
     rt: &(impl Input + Print),
     wanted: Wanted,
     fill: u8,
-    page: Opt,
+    page: Option<u32>,
     file: &mut [u8],
     out: &mut [u8],
 ) -> Ran
@@ -70,16 +76,16 @@ fn main(rt: HostRuntime) {
     if count > 6 {
         return;
     }
-    let Opt::Some(format) = prog_args::number_at(&rt, 1) else {
+    let Some(format) = prog_args::number_at(&rt, 1) else {
         return;
     };
-    let Opt::Some(load) = prog_args::number_at(&rt, 2) else {
+    let Some(load) = prog_args::number_at(&rt, 2) else {
         return;
     };
-    let Opt::Some(whole) = prog_args::number_at(&rt, 3) else {
+    let Some(whole) = prog_args::number_at(&rt, 3) else {
         return;
     };
-    let Opt::Some(fill) = prog_args::number_at(&rt, 4) else {
+    let Some(fill) = prog_args::number_at(&rt, 4) else {
         return;
     };
     if whole > 1 {
@@ -93,11 +99,11 @@ fn main(rt: HostRuntime) {
     let mut file = [0u8; FILE];
     let mut text = [0u8; TEXT];
     if count < 6 {
-        run(&rt, wanted, choice(fill), Opt::None, &mut file, &mut text);
+        run(&rt, wanted, choice(fill), None, &mut file, &mut text);
         return;
     }
     let page = prog_args::number_at(&rt, 5);
-    if let Opt::Some(_) = page {
+    if let Some(_) = page {
         run(&rt, wanted, choice(fill), page, &mut file, &mut text);
     }
 }

@@ -12,7 +12,6 @@ ghost use Rattle.print_rehex.specs.Steps.{text_room};
 ghost use Rattle.says.specs.Lines.{Shows};
 ghost use Rattle.says.specs.Texts.{RehexText};
 
-use prelude::Opt;
 use prog_asked::choice;
 
 // The longest file that is read, and a byte more, so that nothing is cut to a sound file.
@@ -110,13 +109,13 @@ fn main(rt: HostRuntime) {
     if count > 4 {
         return;
     }
-    let Opt::Some(kind) = prog_args::number_at(&rt, 1) else {
+    let Some(kind) = prog_args::number_at(&rt, 1) else {
         return;
     };
-    let Opt::Some(format) = prog_args::number_at(&rt, 2) else {
+    let Some(format) = prog_args::number_at(&rt, 2) else {
         return;
     };
-    let Opt::Some(load) = prog_args::number_at(&rt, 3) else {
+    let Some(load) = prog_args::number_at(&rt, 3) else {
         return;
     };
     let mut source = [0u8; SOURCE];

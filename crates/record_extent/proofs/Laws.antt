@@ -1,4 +1,5 @@
 -- The loop over a file's lines: what is known before each turn, and a law for each way on; and what is answered.
+use Rattle.std.specs.Prelude.{Err, Result}
 use mathlib.Core.Path.{◌≡◌, refl, sym, ap, subst, ◌∙◌}
 use mathlib.Core.Bool.{Bool}
 use mathlib.Core.List.{List, [], ◌∷◌, ◌++◌}
@@ -15,13 +16,11 @@ use Rattle.record_lines.specs.Pieces.{Piece}
 use Rattle.record_lines.specs.declared.Line.{Line}
 use Rattle.record_scan.specs.Reading.{new_pieces, read_text, faulty}
 use Rattle.record_scan.specs.Trail.{trail}
-use Rattle.record_scan.specs.Steps.{Stepped, Scanned, ScanIs, highest}
+use Rattle.record_scan.specs.Steps.{Stepped, Scanned, ScanIs, highest, whole_file}
 use Rattle.record_scan.specs.Laws.TrailLaws.{moved, next-at, next-state, next-given, said}
-use Rattle.record_scan.specs.declared.Scan.{Scan}
-use Rattle.record_scan.specs.declared.Scan.TheVariants.{Whole, Broken}
 use Rattle.record_scan.specs.declared.Step.{Step}
-use Rattle.record_extent.specs.Extent.{lowest_of, extent_of}
-use Rattle.record_extent.specs.declared.Extent.TheVariants.{Spans, Refused}
+use Rattle.record_scan.specs.declared.Whole.{Whole}
+use Rattle.record_extent.specs.Extent.{lowest_of, extent_of, reaches}
 
 -- ---- the lowest address of pieces
 
@@ -86,24 +85,24 @@ module _ (format : ℕ) (text : List ℕ) (n : ℕ) where
 
 -- ---- what is answered
 
-module _ (format : ℕ) (text : List ℕ) (r : Scan) (p : ScanIs format 0 text r) where
-  pub whole : {lines high : ℕ} {ascend : Bool} {parts : ℕ} → r ≡ Whole lines high ascend parts → Scanned format 0 text lines high ascend parts
+module _ (format : ℕ) (text : List ℕ) (r : Result Whole ℕ) (p : ScanIs format 0 text r) where
+  pub whole : {lines high : ℕ} {ascend : Bool} {parts : ℕ} → r ≡ whole_file lines high ascend parts → Scanned format 0 text lines high ascend parts
   whole e = subst (ScanIs format 0 text) e p
 
-  pub broken : {line : ℕ} → r ≡ Broken line → Refused (Malformed 0) ≡ extent_of (read_text format 0 text)
+  pub broken : {line : ℕ} → r ≡ Err line → Err (Malformed 0) ≡ extent_of (read_text format 0 text)
   broken {line} e = let w : read_text format 0 text ≡ faulty line = subst (ScanIs format 0 text) e p in sym (ap extent_of w)
 
 module _ {format : ℕ} {text : List ℕ} {lines high : ℕ} {ascend : Bool} {parts : ℕ} (w : Scanned format 0 text lines high ascend parts) where
   abbrev given : List Piece
   given = (trail format text lines).given
 
-  pub spans-none : high ≡ 0 → Spans 0 0 ≡ extent_of (read_text format 0 text)
+  pub spans-none : high ≡ 0 → reaches 0 0 ≡ extent_of (read_text format 0 text)
   spans-none e =
       let none : highest given ≡ 0 = sym w.top ∙ e in
-      sym (ap extent_of w.reads ∙ ap (λ (h : ℕ). Spans (pick (eqb h 0) 0 (lowest_of given)) h) none)
+      sym (ap extent_of w.reads ∙ ap (λ (h : ℕ). reaches (pick (eqb h 0) 0 (lowest_of given)) h) none)
 
-  pub spans-some : {low : ℕ} → (high ≡ 0 → ⊥) → low ≡ lowest_of given → Spans low high ≡ extent_of (read_text format 0 text)
+  pub spans-some : {low : ℕ} → (high ≡ 0 → ⊥) → low ≡ lowest_of given → reaches low high ≡ extent_of (read_text format 0 text)
   spans-some {low} n e =
       let some : highest given ≡ 0 → ⊥ = λ z. n (w.top ∙ z) in
-      sym (ap extent_of w.reads ∙ ap (λ (t : Bool). Spans (pick t 0 (lowest_of given)) (highest given)) (ne_eqb (highest given) 0 some)
-      ∙ ap (λ (x : ℕ). Spans x (highest given)) (sym e) ∙ ap (Spans low) (sym w.top))
+      sym (ap extent_of w.reads ∙ ap (λ (t : Bool). reaches (pick t 0 (lowest_of given)) (highest given)) (ne_eqb (highest given) 0 some)
+      ∙ ap (λ (x : ℕ). reaches x (highest given)) (sym e) ∙ ap (reaches low) (sym w.top))

@@ -10,13 +10,12 @@ ghost use Rattle.record_scan.specs.Steps.{AllGood};
 ghost use Rattle.record_extent.specs.Extent.{lowest_of, extent_of};
 
 use prelude::Refusal;
-use record_scan::Scan;
 
-// The lowest address and the first behind the highest, both 0 for a file that gives no byte; or why none is told.
+// The lowest address and the first behind the highest, both 0 for a file that gives no byte.
 #[derive(Clone, Copy)]
-pub enum Extent {
-    Spans(u64, u64),
-    Refused(Refusal),
+pub struct Extent {
+    pub lowest: u64,
+    pub end: u64,
 }
 
 // The first address that there is not.
@@ -29,7 +28,7 @@ fn lower(low: u64, address: u32, count: u8) -> u64
     if count == 0 {
         return low;
     }
-    prelude::lesser(low, address as u64)
+    low.min(u64::from(address))
 }
 
 // The lowest address that the first n lines give a byte to.
@@ -52,15 +51,19 @@ fn lowest(format: u8, text: &[u8], t: &[u8; 256], n: usize) -> u64
 
 // The extent of a file, format 0 Intel HEX, every other number S-records. It is read from address 0 on, so that nothing lies below. The scratch makes it quick
 // where it is zeros, and is as it was behind the call.
-pub fn extent_of(format: u8, text: &[u8], scratch: &mut [u8]) -> Extent
+pub fn extent_of(format: u8, text: &[u8], scratch: &mut [u8]) -> Result<Extent, Refusal>
     ensures { (result ≡ extent_of (read_text format 0 text.now)) × (scratch.new ≡ scratch.old) }
 {
     let t = record_lines::digit_table();
-    let Scan::Whole(n, end, _, _) = record_scan::scan_lines(format, text, &t, 0, scratch) else {
-        return Extent::Refused(Refusal::Malformed(0));
+    let Ok(whole) = record_scan::scan_lines(format, text, &t, 0, scratch) else {
+        return Err(Refusal::Malformed(0));
     };
+    let end = whole.high;
     if end == 0 {
-        return Extent::Spans(0, 0);
+        return Ok(Extent { lowest: 0, end: 0 });
     }
-    Extent::Spans(lowest(format, text, &t, n), end)
+    Ok(Extent {
+        lowest: lowest(format, text, &t, whole.lines),
+        end,
+    })
 }

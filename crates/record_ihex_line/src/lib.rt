@@ -1,7 +1,7 @@
 // Intel HEX, one line at a time: what a line says. Document 02, Ticket 1.
 #![tactic(auto)]
 
-ghost use Rattle.std.specs.Prelude.{◌≡◌, Bool, true, ◌<◌};
+ghost use Rattle.std.specs.Prelude.{◌≡◌, Bool, true};
 ghost use Rattle.record_lines.specs.Items.{Says};
 ghost use Rattle.record_lines.specs.Spelling.{Spells};
 ghost use Rattle.record_ihex_line.specs.Format.{word_at, good_line, hex_item};
@@ -9,24 +9,22 @@ ghost use Rattle.record_ihex_line.specs.Format.{word_at, good_line, hex_item};
 use record_lines::{Line, plain};
 
 // "types 00, 01 and 04": data, the end, and the upper half of the addresses that follow
+// stays: numbers of the file's format
 const TYPE_DATA: u8 = 0;
 
 const TYPE_END: u8 = 1;
 
 const TYPE_UPPER: u8 = 4;
 
-fn wide(x: u8) -> u16
-    ensures { (result ≡ x) × (result < 256) }
-{
-    x as u16
-}
-
 // Two bytes of a line, the higher first.
 fn word(line: &[u8], t: &[u8; 256], i: u16) -> u16
     ensures { Spells t.now → result ≡ word_at line.now i }
 {
-    let at = i as u32;
-    256 * wide(record_lines::pair(line, t, at)) + wide(record_lines::pair(line, t, at + 2))
+    let at = u32::from(i);
+    u16::from_be_bytes([
+        record_lines::pair(line, t, at),
+        record_lines::pair(line, t, at + 2),
+    ])
 }
 
 // Whether a line is a colon and as many digits as its count says. "Bytes of a record, checksum included, sum to zero and wrap at 256": checked.
@@ -36,7 +34,7 @@ fn is_good(line: &[u8], t: &[u8; 256]) -> bool
     if record_lines::char_at(line, 0) != b':' {
         return false;
     }
-    let count = record_lines::pair(line, t, 1) as u16;
+    let count = u16::from(record_lines::pair(line, t, 1));
     record_lines::sum_checked(line, t, 1, 5 + count) == 0
 }
 
@@ -51,7 +49,7 @@ pub fn known_line(line: &[u8], t: &[u8; 256], state: u16) -> Line
     if kind == TYPE_DATA {
         return Line {
             kind: record_lines::DATA,
-            address: 65_536 * (state as u32) + field as u32,
+            address: 65_536 * u32::from(state) + u32::from(field),
             first: 9,
             count,
             state,

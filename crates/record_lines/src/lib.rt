@@ -53,55 +53,33 @@ pub fn plain(kind: u8, state: u16) -> Line
 fn value(c: u8) -> u8
     ensures { (result ≡ value_of c) × (result < 17) }
 {
-    if c < b'0' {
-        return 16;
+    match c {
+        b'0'..=b'9' => c - b'0',
+        b'A'..=b'F' => c - b'A' + 10,
+        b'a'..=b'f' => c - b'a' + 10,
+        _ => 16,
     }
-    if c < 58 {
-        return c - b'0';
-    }
-    if c < b'A' {
-        return 16;
-    }
-    if c < 71 {
-        return c - 55;
-    }
-    if c < b'a' {
-        return 16;
-    }
-    if c < 103 {
-        return c - 87;
-    }
-    16
 }
 
 // The character at a place of a line; 0, which is no digit, past its end.
 pub fn char_at(line: &[u8], i: u64) -> u8
     ensures { result ≡ slice_index line.now i }
 {
-    if i < line.len() as u64 {
-        line[i as usize]
-    } else {
-        0
-    }
+    line.get(i as usize).copied().unwrap_or(0)
 }
 
 // What each character stands for, as a table: made once for a file.
 pub fn digit_table() -> [u8; 256]
     ensures { Spells result }
 {
-    let mut t = [16u8; 256];
-    for i in 0..256usize {
-        t[i] = value(i as u8);
-    }
-    t
+    std::array::from_fn(|c| value(c as u8))
 }
 
 // A character's value by the table, if that spells the digits.
 fn value_by(t: &[u8; 256], c: u8) -> u8
     ensures { Spells t.now → result ≡ value_of c }
 {
-    let at = c as usize;
-    t[at]
+    t[usize::from(c)]
 }
 
 // The byte that two characters spell, by a table that spells the digits.
@@ -117,7 +95,7 @@ pub fn pair_of(t: &[u8; 256], first: u8, second: u8) -> u8
 pub fn pair(line: &[u8], t: &[u8; 256], i: u32) -> u8
     ensures { Spells t.now → result ≡ pair_at line.now i }
 {
-    let at = i as u64;
+    let at = u64::from(i);
     pair_of(t, char_at(line, at), char_at(line, at + 1))
 }
 
@@ -125,7 +103,7 @@ pub fn pair(line: &[u8], t: &[u8; 256], i: u32) -> u8
 pub fn byte_at(line: &[u8], i: u32) -> u8
     ensures { result ≡ pair_at line.now i }
 {
-    let at = i as u64;
+    let at = u64::from(i);
     let high = value(char_at(line, at));
     let low = value(char_at(line, at + 1));
     16 * (high % 16) + low % 16
@@ -135,31 +113,21 @@ pub fn byte_at(line: &[u8], i: u32) -> u8
 pub fn all_digits(line: &[u8], from: usize) -> bool
     ensures { result ≡ all_digits (drop from line.now) }
 {
-    for i in from..line.len() {
-        if value(line[i]) == 16 {
-            return false;
-        }
-    }
-    true
+    line.iter().skip(from).all(|&c| value(c) < 16)
 }
 
 // The wrapping sum of the n bytes that a line spells from a place on, digits or not.
 pub fn sum_pairs(line: &[u8], from: u16, n: u16) -> u8
     ensures { result ≡ sum_of (bytes_at line.now from n) % 256 }
 {
-    let start = from as u32;
-    let count = n as u32;
+    let start = u32::from(from);
+    let count = u32::from(n);
     let mut sum = 0u8;
+    // stays: bytes past the line's end are added too, so that no part of the line has them all
     for j in 0..count {
-        sum = std::num::wrapping_add_u8(sum, byte_at(line, start + 2 * j));
+        sum = sum.wrapping_add(byte_at(line, start + 2 * j));
     }
     sum
-}
-
-fn wide(x: u8) -> u32
-    ensures { (result ≡ x) × (result < 256) }
-{
-    x as u32
 }
 
 // "Bytes of a record, checksum included, sum to zero and wrap at 256": the wrapping sum of the n bytes that the characters from a place to the end of
@@ -167,25 +135,23 @@ fn wide(x: u8) -> u32
 pub fn sum_checked(line: &[u8], t: &[u8; 256], from: u16, n: u16) -> u32
     ensures { Spells t.now → result ≡ checked_sum line.now from n }
 {
-    let first = from as usize;
-    let count = n as usize;
-    if line.len() != first + 2 * count {
+    let first = usize::from(from);
+    if line.len() != first + 2 * usize::from(n) {
         return 256;
     }
     let mut sum = 0u8;
-    for j in 0..count {
-        let i = first + 2 * j;
-        let high = value_by(t, line[i]);
-        let low = value_by(t, line[i + 1]);
+    for pair in line[first..].as_chunks::<2>().0 {
+        let high = value_by(t, pair[0]);
+        let low = value_by(t, pair[1]);
         if 15 < high {
             return 256;
         }
         if 15 < low {
             return 256;
         }
-        sum = std::num::wrapping_add_u8(sum, 16 * high + low);
+        sum = sum.wrapping_add(16 * high + low);
     }
-    wide(sum)
+    u32::from(sum)
 }
 
 // Whether CR LF stands at a place.
@@ -203,27 +169,41 @@ fn is_cr_lf(text: &[u8], i: usize) -> bool
     text[next] == b'\n'
 }
 
+// The line at the front of a text.
+fn front_line(text: &[u8]) -> Cut
+    ensures cut { CutIs text.now 0 result }
+    ensures upper_bound { (result.stop ≤ length text.now) × (result.next ≤ length text.now) }
+{
+    let Some(lf) = text.iter().position(|&c| c == b'\n') else {
+        return Cut {
+            stop: text.len(),
+            next: text.len(),
+        };
+    };
+    if 0 < lf && text[lf - 1] == b'\r' {
+        return Cut {
+            stop: lf - 1,
+            next: lf + 1,
+        };
+    }
+    Cut {
+        stop: lf,
+        next: lf + 1,
+    }
+}
+
 // The line that begins at a place: "LF or CR LF" ends it, or the end of the text.
 pub fn line_from(text: &[u8], at: usize) -> Cut
     ensures { CutIs text.now at result }
 {
-    let mut i = at;
-    while i < text.len() {
-        if text[i] == b'\n' {
-            return Cut {
-                stop: i,
-                next: i + 1,
-            };
-        }
-        if is_cr_lf(text, i) {
-            return Cut {
-                stop: i,
-                next: i + 2,
-            };
-        }
-        i += 1;
+    if text.len() <= at {
+        return Cut { stop: at, next: at };
     }
-    Cut { stop: i, next: i }
+    let cut = front_line(&text[at..]);
+    Cut {
+        stop: at + cut.stop,
+        next: at + cut.next,
+    }
 }
 
 // How a line ends at a place: with the text, by LF, by CR LF, or not there.
@@ -249,5 +229,5 @@ pub fn end_at(text: &[u8], at: usize) -> u8
 pub fn least(a: usize, b: usize) -> usize
     ensures { result ≡ min a b }
 {
-    if a < b { a } else { b }
+    a.min(b)
 }

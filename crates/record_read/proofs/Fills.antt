@@ -2,15 +2,18 @@
 use mathlib.Core.Path.{◌≡◌, refl, sym, ap, ap₂, ◌∙◌}
 use mathlib.Core.List.{List, [], ◌∷◌}
 use mathlib.Core.Logic.{◌⊎◌, inl, inr}
-use Prim.Native.Nat.{ℕ, ◌+◌, ◌-◌, ◌*◌, ◌≤◌, ◌<◌}
+use Prim.Native.Nat.{ℕ, zero, suc, ◌+◌, ◌-◌, ◌*◌, ◌/◌, ◌%◌, ◌≤◌, ◌<◌}
 use native.Mathlib.Nat.{le_antisymm}
 use native.Mathlib.Decide.{dec_lt, ℕ_discrete}
 use native.Mathlib.Omega.{arith}
-use lib.ListN.{length, get_or, set, length-set}
+use lib.ListN.{length, get_or, set, take, drop, length-set}
 use lib.Seq.{get_or-set_same, get_or-set_other}
+use Rattle.std.specs.Simd.{first_chunks}
+use Rattle.std.proofs.Common.{length-drop}
+use Rattle.std.proofs.lemmas.List.{get_or-take, get_or-drop, length-take}
 use Rattle.bitvec.specs.Lists.{list_of}
 use Rattle.bitvec.specs.Laws.Lists.{length-list_of}
-use Rattle.record_lines.specs.Digits.{pair_at, bytes_at}
+use Rattle.record_lines.specs.Digits.{value_of, pair_at, bytes_at}
 use Rattle.record_lines.specs.Pieces.{Piece, piece}
 use Rattle.record_lines.specs.Laws.Sums.{list-one-more}
 use Rattle.record_scan.specs.Reading.{new_pieces}
@@ -79,6 +82,34 @@ module _ (line : List ℕ) (first address load : ℕ) (old : List ℕ) where
       ∙ ap (λ (a : ℕ). filled load (piece a (f j ∷ []) ∷ []) (spelled j)) place
       ∙ filled-split load address (list_of j f) (f j ∷ []) old
       ∙ ap (λ (l : List ℕ). filled load (piece address l ∷ []) old) (sym (list-one-more j f))
+
+-- ---- the characters of a line, in pairs
+
+digit_in : (k j : ℕ) (l : List ℕ) (i : ℕ) → j < k → i < 2 → get_or (get_or (first_chunks 2 k l) j []) i 0 ≡ get_or l (2 * j + i) 0
+digit_in zero j l i h u = absurd (omega arith)
+digit_in (suc k) zero l i h u = get_or-take 2 l i 0 u ∙ ap (λ (n : ℕ). get_or l n 0) (omega arith)
+digit_in (suc k) (suc j) l i h u =
+    digit_in k j (drop 2 l) i (omega arith) u ∙ get_or-drop 2 l (2 * j + i) 0 ∙ ap (λ (n : ℕ). get_or l n 0) (omega arith)
+
+module _ (line : List ℕ) (first m k j : ℕ) {pairs : List (List ℕ)} (e : pairs ≡ first_chunks 2 k (take m (drop first line))) where
+  digit_is : (i : ℕ) → j < k → 2 * j + 1 < m → i < 2 → get_or (get_or pairs j []) i 0 ≡ get_or line (first + 2 * j + i) 0
+  digit_is i h g u =
+      ap (λ (p : List (List ℕ)). get_or (get_or p j []) i 0) e ∙ digit_in k j (take m (drop first line)) i h u
+      ∙ get_or-take m (drop first line) (2 * j + i) 0 (omega arith) ∙ get_or-drop first line (2 * j + i) 0
+      ∙ ap (λ (n : ℕ). get_or line n 0) (omega arith)
+
+  pub pair_is : j < k → 2 * j + 1 < m
+      → 16 * (value_of (get_or (get_or pairs j []) 0 0) % 16) + value_of (get_or (get_or pairs j []) 1 0) % 16 ≡ pair_at line (first + 2 * j)
+  pair_is h g =
+      ap₂ (λ (x y : ℕ). 16 * (value_of x % 16) + value_of y % 16)
+      (digit_is 0 h g (omega arith) ∙ ap (λ (n : ℕ). get_or line n 0) (omega arith)) (digit_is 1 h g (omega arith))
+
+pub pairs_all : (line : List ℕ) (first count : ℕ) → first + 2 * count ≤ length line
+    → length (take (first + 2 * count - first) (drop first line)) / 2 ≡ count
+pairs_all line first count h =
+    let n : length (take (first + 2 * count - first) (drop first line)) ≡ 2 * count =
+    omega (arith, length-take (first + 2 * count - first) (drop first line), length-drop first line) in
+    omega arith
 
 -- ---- the bytes of a file
 

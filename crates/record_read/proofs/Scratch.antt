@@ -171,43 +171,40 @@ module _ (scratch : List ℕ) (from j first end : ℕ) (f : FirstBit scratch 1 j
               (omega (arith, f.onward, g.onward)) (λ x l u. gap x l (omega arith))
         ])
 
-abbrev pub walk : Run → ℕ → Walk
-walk r count = record { run = r; count = count }
-
 -- How far the walk over a window came, from whatever it began with.
-pub record Passing (scratch : List ℕ) (from : ℕ) (w : Walk) (os ss : List ℕ) (r : Run) (count j : ℕ) (os' ss' : List ℕ) : Type 0 where
+pub record Passing (scratch : List ℕ) (from : ℕ) (w : Walk) (os ss : List ℕ) (r : Walk) (j : ℕ) (os' ss' : List ℕ) : Type 0 where
   pub inside : j ≤ 8 * length scratch
-  pub listed : Passes scratch from w os ss (walk r count) (from + j) os' ss'
+  pub listed : Passes scratch from w os ss r (from + j) os' ss'
 
 module _ (scratch : List ℕ) (from : ℕ) (w : Walk) (os ss : List ℕ) where
-  pub passing-starts : Passing scratch from w os ss w.run w.count 0 os ss
+  pub passing-starts : Passing scratch from w os ss w 0 os ss
   passing-starts =
       record {
         inside = omega arith;
         listed = λ test os₀ ss₀ m l. subst (λ (x : ℕ). Listed test os₀ ss₀ w.run x w.count os ss) (sym (add-zero from)) l;
       }
 
-  module _ {r : Run} {count j : ℕ} {os' ss' : List ℕ} (p : Passing scratch from w os ss r count j os' ss') where
-    pub passing-on : (first end : ℕ) → FirstBit scratch 1 j first → FirstBit scratch 0 first end → {count'' : ℕ} {os'' ss'' : List ℕ} {r'' : Run}
-        → Put (map in_bits (closed_by r (run (from + first) (from + end)))) count os' ss' count'' os'' ss''
-        → r'' ≡ joined_by r (run (from + first) (from + end)) → from + end ≤ 8589934592 → Passing scratch from w os ss r'' count'' end os'' ss''
+  module _ {r : Walk} {j : ℕ} {os' ss' : List ℕ} (p : Passing scratch from w os ss r j os' ss') where
+    pub passing-on : (first end : ℕ) → FirstBit scratch 1 j first → FirstBit scratch 0 first end → {os'' ss'' : List ℕ} {r'' : Walk}
+        → Put (map in_bits (closed_by r.run (run (from + first) (from + end)))) r.count os' ss' r''.count os'' ss''
+        → r''.run ≡ joined_by r.run (run (from + first) (from + end)) → from + end ≤ 8589934592 → Passing scratch from w os ss r'' end os'' ss''
     passing-on first end f g put e small =
         record {
           inside = g.within;
           listed = λ test os₀ ss₀ m l. window_on scratch from j first end f g test os₀ ss₀ m (p.listed test os₀ ss₀ m l) put e small;
         }
 
-    pub passing-ends : 8 * length scratch ≤ j → Passes scratch from w os ss (walk r count) (from + 8 * length scratch) os' ss'
+    pub passing-ends : 8 * length scratch ≤ j → Passes scratch from w os ss r (from + 8 * length scratch) os' ss'
     passing-ends h =
-        subst (λ (x : ℕ). Passes scratch from w os ss (walk r count) (from + x) os' ss') (le_antisymm p.inside h) p.listed
+        subst (λ (x : ℕ). Passes scratch from w os ss r (from + x) os' ss') (le_antisymm p.inside h) p.listed
 
 -- Whatever is underway has room for its next block.
-module _ {scratch : List ℕ} {from : ℕ} {w : Walk} {os ss : List ℕ} (u : Underway scratch from w os ss) {r : Run} {count j : ℕ} {os' ss' : List ℕ}
-    (p : Passing scratch from w os ss r count j os' ss') where
-  reached : Listed u.test u.first u.second r (from + j) count os' ss'
+module _ {scratch : List ℕ} {from : ℕ} {w : Walk} {os ss : List ℕ} (u : Underway scratch from w os ss) {r : Walk} {j : ℕ} {os' ss' : List ℕ}
+    (p : Passing scratch from w os ss r j os' ss') where
+  reached : Listed u.test u.first u.second r.run (from + j) r.count os' ss'
   reached = p.listed u.test u.first u.second u.marked u.listed
 
-  pub passing-room : (r.first ≤ r.end) × (count ≤ r.first) × Small r
+  pub passing-room : (r.run.first ≤ r.run.end) × (r.count ≤ r.run.first) × Small r.run
   passing-room = listed-room reached
 
   pub passing-long : (length os' ≡ length os) × (length ss' ≡ length ss)

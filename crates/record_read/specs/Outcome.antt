@@ -1,12 +1,11 @@
 -- A call that reads: its answer, and everything lent afterwards. Document 02, Ticket 1: "Refusals: .. 4 for .. a bad file, then 14." "Places of 14: .. bytes
 -- read 0, then blocks read 2. Of 4 ..: 0." "All that is 4 is found over the whole file before 14 is tried."
-use Rattle.std.specs.Prelude.{◌≡◌, Bool, ◌&&◌, List, ℕ, leb, length}
+use Rattle.std.specs.Prelude.{◌≡◌, Bool, ◌&&◌, List, ℕ, leb, length, Result, Ok, Err}
 use Rattle.prelude.specs.Pick.{pick}
 use Rattle.prelude.specs.Told.{Told, gives, refuses}
 use Rattle.prelude.specs.declared.Place.TheVariants.{One}
 use Rattle.prelude.specs.declared.Refusal.TheVariants.{Malformed, TooShort}
-use Rattle.blocks.specs.declared.Blocks.{Blocks}
-use Rattle.blocks.specs.declared.Blocks.TheVariants.{Found, Refused}
+use Rattle.prelude.specs.declared.Refusal.{Refusal}
 use Rattle.blocks.specs.Outcome.{origins, sizes, over, room_for, ToldBy}
 use Rattle.record_lines.specs.Pieces.{Piece}
 use Rattle.record_scan.specs.Reading.{Read, sound, faulty}
@@ -30,12 +29,12 @@ bytes_fit load pieces l = leb (reach load pieces) (length l.bytes)
 abbrev pub blocks_fit : ℕ → List Piece → Lent → Bool
 blocks_fit load pieces l = room_for (blocks_given load pieces) l.offsets l.sizes
 
-abbrev pub answer_of : ℕ → Lent → Read → Blocks
+abbrev pub answer_of : ℕ → Lent → Read → Result ℕ Refusal
 answer_of load l (sound pieces) =
     pick (bytes_fit load pieces l)
-    (pick (blocks_fit load pieces l) (Found (length (blocks_given load pieces))) (Refused (TooShort 2)))
-    (Refused (TooShort 0))
-answer_of load l (faulty line) = Refused (Malformed 0)
+    (pick (blocks_fit load pieces l) (Ok (length (blocks_given load pieces))) (Err (TooShort 2)))
+    (Err (TooShort 0))
+answer_of load l (faulty line) = Err (Malformed 0)
 
 -- The same in document 01's figures.
 abbrev pub told_of : ℕ → Lent → Read → Told ℕ
@@ -57,7 +56,7 @@ abbrev pub lent_after : ℕ → Lent → Read → Lent
 lent_after load l (sound pieces) = pick (all_fit load pieces l) (taken load pieces l) l
 lent_after load l (faulty line) = l
 
-pub record Reads (load : ℕ) (read : Read) (old : Lent) (r : Blocks) (new : Lent) : Type 0 where
+pub record Reads (load : ℕ) (read : Read) (old : Lent) (r : Result ℕ Refusal) (new : Lent) : Type 0 where
   pub answer : r ≡ answer_of load old read
   pub figures : ToldBy r ≡ told_of load old read
   pub after : new ≡ lent_after load old read

@@ -17,9 +17,8 @@ ghost use Rattle.record_read.specs.Outcome.{lent, Reads};
 ghost use Rattle.record_read.specs.Steps.{extent_of, kept_run, closed_by, joined_by, Small, Lowest, Betters};
 ghost use Rattle.record_read.specs.Steps.{Ready, Usable, FirstBit, Underway, Passes};
 
-use blocks::Blocks;
 use prelude::Refusal;
-use record_scan::Scan;
+use record_lines::Line;
 
 // Bytes from `first` on and before `end`, counted from the load address; none where `end` is not above `first`.
 #[derive(Clone, Copy)]
@@ -35,6 +34,33 @@ pub struct Walk {
     pub count: usize,
 }
 
+// A sound file: its format, its text, a table that spells the digits, how many lines stand before its end record, the address that it is read from, where
+// its bytes end, counted from there, and whether its records ascend and in how many parts.
+#[derive(Clone, Copy)]
+struct File<'a> {
+    format: u8,
+    text: &'a [u8],
+    t: &'a [u8; 256],
+    n: usize,
+    load: u32,
+    end: u64,
+    ascend: bool,
+    parts: u64,
+    ghost spells: { Spells t.now },
+    ghost good: { AllGood format text.now n },
+    ghost ready: { Ready format text.now n load end },
+    ghost order: { ascend ≡ rises format text.now n },
+    ghost counted: { ascend ≡ true → parts ≡ length (blocks_given load (trail format text.now n).given) },
+}
+
+// No bytes, and a walk that has met none.
+const EMPTY: Run = Run { first: 0, end: 0 };
+
+const START: Walk = Walk {
+    run: EMPTY,
+    count: 0,
+};
+
 // The bytes' and the blocks' numbers among the lent outputs.
 const BYTES: u64 = 0;
 
@@ -45,29 +71,6 @@ const FEW: u64 = 16;
 
 // Scratch with a bit for every address takes so many bytes.
 const SCRATCH: usize = 536_870_912;
-
-// An address, counted from the load address; 0 for one below it.
-fn above(address: u64, load: u32) -> u64
-    ensures { (result ≡ address - load) × (result ≤ address) }
-{
-    let base = load as u64;
-    if address < base {
-        return 0;
-    }
-    address - base
-}
-
-// The bytes of a line. (Only lines with bytes have a count.)
-fn extent(address: u32, count: u8, load: u32) -> Run
-    ensures { (result ≡ extent_of address count load) × Small result }
-{
-    let first = address as u64;
-    let end = first + count as u64;
-    Run {
-        first: above(first, load),
-        end: above(end, load),
-    }
-}
 
 impl Run {
     // Writes the run behind the blocks that are written, unless it is empty, and counts it.
@@ -90,10 +93,7 @@ impl Run {
         requires { (self.first ≤ self.end) × (count ≤ self.first) × Small self }
         ensures { Put (map in_bits (closed_by self next)) count offsets.old sizes.old result offsets.new sizes.new }
     {
-        if next.end <= next.first {
-            return count;
-        }
-        if self.end == next.first {
+        if next.end <= next.first || self.end == next.first {
             return count;
         }
         self.push(count, offsets, sizes)
@@ -108,8 +108,8 @@ impl Run {
         }
         if next.first == self.end {
             return Run {
-                first: self.first,
                 end: next.end,
+                ..self
             };
         }
         next
@@ -119,7 +119,7 @@ impl Run {
     fn better(self, next: Run, from: u64) -> Run
         ensures { Betters from self next result }
     {
-        let first = prelude::greater(next.first, from);
+        let first = next.first.max(from);
         let end = next.end;
         if end <= first {
             return self;
@@ -128,19 +128,13 @@ impl Run {
             return Run { first, end };
         }
         if end == self.first {
-            return Run {
-                first,
-                end: self.end,
-            };
+            return Run { first, ..self };
         }
         if first < self.first {
             return Run { first, end };
         }
         if first == self.end {
-            return Run {
-                first: self.first,
-                end,
-            };
+            return Run { end, ..self };
         }
         self
     }
@@ -156,50 +150,28 @@ impl Run {
     }
 }
 
-// The lowest stretch of bytes from a byte on, whatever the order of the records; none where nothing is given there.
-fn lowest(format: u8, text: &[u8], t: &[u8; 256], n: usize, load: u32, from: u64) -> Run
-    requires { Spells t.now × AllGood format text.now n }
-    ensures { Lowest (is_given load (trail format text.now n).given) from result × Small result }
-{
-    let mut at = 0usize;
-    let mut state = 0u16;
-    let mut best = Run { first: 0, end: 0 };
-    for _ in 0..n {
-        let s = record_scan::known_line(format, text, t, at, state);
-        let line = s.line;
-        best = best.better(extent(line.address, line.count, load), from);
-        at = s.next;
-        state = line.state;
+impl Walk {
+    // Goes on by the next run: the one before it is written if the next one does not touch it.
+    fn go(self, next: Run, offsets: &mut [u64], sizes: &mut [u64]) -> Walk
+        requires { (self.run.first ≤ self.run.end) × (self.count ≤ self.run.first) × Small self.run }
+        ensures run { result.run ≡ joined_by self.run next }
+        ensures put { Put (map in_bits (closed_by self.run next)) self.count offsets.old sizes.old result.count offsets.new sizes.new }
+    {
+        let run = self.run;
+        Walk {
+            count: run.close(next, self.count, offsets, sizes),
+            run: run.join(next),
+        }
     }
-    best
-}
 
-// The blocks of a file whose records stand in any order: the lowest stretch is looked for again and again.
-fn walk_any(
-    format: u8,
-    text: &[u8],
-    t: &[u8; 256],
-    n: usize,
-    load: u32,
-    end: u64,
-    offsets: &mut [u64],
-    sizes: &mut [u64],
-) -> usize
-    requires spells { Spells t.now × AllGood format text.now n }
-    requires end_value { end ≡ reach load (trail format text.now n).given }
-    ensures { Put (blocks_given load (trail format text.now n).given) 0
-        offsets.old sizes.old result offsets.new sizes.new }
-{
-    let mut from = 0u64;
-    let mut run = Run { first: 0, end: 0 };
-    let mut count = 0usize;
-    while from < end {
-        let next = lowest(format, text, t, n, load, from);
-        count = run.close(next, count, offsets, sizes);
-        run = run.join(next);
-        from = next.behind(end);
+    // Writes the run that goes on, and counts the blocks.
+    fn finish(self, offsets: &mut [u64], sizes: &mut [u64]) -> usize
+        requires { (self.run.first ≤ self.run.end) × (self.count ≤ self.run.first) × Small self.run }
+        ensures { Put (map in_bits (kept_run self.run)) self.count offsets.old sizes.old result offsets.new sizes.new }
+    {
+        let run = self.run;
+        run.push(self.count, offsets, sizes)
     }
-    run.push(count, offsets, sizes)
 }
 
 // Bit b of a byte, from the top.
@@ -230,6 +202,7 @@ fn next_bit(scratch: &[u8], from: u64, want: u8) -> u64
     // a byte that has none
     let skip = 255 * (1 - want);
     let mut j = from;
+    // stays: a step is a bit or what is left of a byte, which no iterator gives
     while j < size {
         let byte = scratch[(j / 8) as usize];
         if bit_in(byte, j % 8) == want {
@@ -254,9 +227,9 @@ fn walk_window(
         result (from + 8 * length scratch.now) offsets.new sizes.new }
 {
     let size = 8 * scratch.len() as u64;
-    let mut run = begun.run;
-    let mut count = begun.count;
+    let mut walk = begun;
     let mut j = 0u64;
+    // stays: a step is a run, as long as the bits say
     while j < size {
         let first = next_bit(scratch, j, 1);
         let end = next_bit(scratch, first, 0);
@@ -264,90 +237,10 @@ fn walk_window(
             first: from + first,
             end: from + end,
         };
-        count = run.close(next, count, offsets, sizes);
-        run = run.join(next);
+        walk = walk.go(next, offsets, sizes);
         j = end;
     }
-    Walk { run, count }
-}
-
-// The blocks of a file whose records stand in any order, by a bit for each byte given, in as many windows as it takes. The lent scratch is zeros, and is
-// again in the end.
-fn walk_scratch(
-    format: u8,
-    text: &[u8],
-    t: &[u8; 256],
-    n: usize,
-    load: u32,
-    end: u64,
-    offsets: &mut [u64],
-    sizes: &mut [u64],
-    scratch: &mut [u8],
-) -> usize
-    requires spells { Spells t.now × AllGood format text.now n }
-    requires ready { Ready format text.now n load end }
-    requires usable { Usable scratch.old }
-    ensures { Put (blocks_given load (trail format text.now n).given) 0
-        offsets.old sizes.old result offsets.new sizes.new
-        × (scratch.new ≡ scratch.old) }
-{
-    let mut from = 0u64;
-    let mut walk = Walk {
-        run: Run { first: 0, end: 0 },
-        count: 0,
-    };
-    while from < end {
-        let window = record_scan::mark_window(format, text, t, n, load as u64 + from, scratch);
-        walk = walk_window(scratch, from, walk, offsets, sizes);
-        bitvec::clear(scratch);
-        from = above(window.next, load);
-    }
-    walk.run.push(walk.count, offsets, sizes)
-}
-
-// Whether the blocks are found by scratch: where there are more than a few, and scratch is lent and is zeros.
-fn by_scratch(ascend: bool, parts: u64, scratch: &[u8]) -> bool
-    ensures { result ≡ true → Usable scratch.now }
-{
-    if ascend {
-        return false;
-    }
-    if parts <= FEW {
-        return false;
-    }
-    if scratch.len() == 0 {
-        return false;
-    }
-    if scratch.len() > SCRATCH {
-        return false;
-    }
-    record_scan::all_zero(scratch)
-}
-
-// The blocks of a file whose records stand in any order.
-fn find_blocks(
-    format: u8,
-    text: &[u8],
-    t: &[u8; 256],
-    n: usize,
-    load: u32,
-    end: u64,
-    marked: bool,
-    offsets: &mut [u64],
-    sizes: &mut [u64],
-    scratch: &mut [u8],
-) -> usize
-    requires spells { Spells t.now × AllGood format text.now n }
-    requires ready { Ready format text.now n load end }
-    requires usable { marked ≡ true → Usable scratch.old }
-    ensures { Put (blocks_given load (trail format text.now n).given) 0
-        offsets.old sizes.old result offsets.new sizes.new
-        × (scratch.new ≡ scratch.old) }
-{
-    if marked {
-        return walk_scratch(format, text, t, n, load, end, offsets, sizes, scratch);
-    }
-    walk_any(format, text, t, n, load, end, offsets, sizes)
+    walk
 }
 
 // Stores the byte of an address, if there is room for it.
@@ -355,218 +248,235 @@ fn put_byte(bytes: &mut [u8], address: u64, load: u32, value: u8)
     ensures { bytes.new ≡ filled load (piece address (value ∷ []) ∷ []) bytes.old }
 {
     let base = load as u64;
-    if address < base {
-        return;
-    }
-    let at = address - base;
-    if at < bytes.len() as u64 {
-        bytes[at as usize] = value;
+    if base <= address && address - base < bytes.len() as u64 {
+        bytes[(address - base) as usize] = value;
     }
 }
 
-// Stores the bytes of a line.
-fn fill_line(
-    line: &[u8],
-    t: &[u8; 256],
-    first: u16,
-    count: u8,
-    address: u32,
-    load: u32,
-    bytes: &mut [u8],
-)
-    requires { Spells t.now × (first + 2 * count ≤ length line.now) }
-    ensures { bytes.new ≡ filled load (piece address (bytes_at line.now first count) ∷ []) bytes.old }
-{
-    let start = first as usize;
-    let base = address as u64;
-    let n = count as usize;
-    for j in 0..n {
-        let i = start + 2 * j;
-        put_byte(
-            bytes,
-            base + j as u64,
-            load,
-            record_lines::pair_of(t, line[i], line[i + 1]),
-        );
+impl File<'_> {
+    // The bytes of a line, counted from the load address. (Only lines with bytes have a count.)
+    fn extent(&self, line: Line) -> Run
+        ensures { (result ≡ extent_of line.address line.count self.now.load) × Small result }
+    {
+        let base = self.load as u64;
+        let first = line.address as u64;
+        let end = first + line.count as u64;
+        Run {
+            first: first.saturating_sub(base),
+            end: end.saturating_sub(base),
+        }
     }
-}
 
-// Stores the bytes of the first n lines.
-fn fill(format: u8, text: &[u8], t: &[u8; 256], n: usize, load: u32, bytes: &mut [u8])
-    requires { Spells t.now × AllGood format text.now n }
-    ensures { bytes.new ≡ filled load (trail format text.now n).given bytes.old }
-{
-    let mut at = 0usize;
-    let mut state = 0u16;
-    for _ in 0..n {
-        let s = record_scan::known_line(format, text, t, at, state);
-        let line = s.line;
-        let stop = s.stop;
-        fill_line(
-            &text[at..stop],
-            t,
-            line.first,
-            line.count,
-            line.address,
-            load,
-            bytes,
-        );
-        at = s.next;
-        state = line.state;
+    // The lowest stretch of bytes from a byte on, whatever the order of the records; none where nothing is given there.
+    fn lowest(&self, from: u64) -> Run
+        ensures { let given = (trail self.now.format self.now.text.now self.now.n).given in
+            Lowest (is_given self.now.load given) from result × Small result }
+    {
+        let mut at = 0usize;
+        let mut state = 0u16;
+        let mut best = EMPTY;
+        for _ in 0..self.n {
+            let s = record_scan::known_line(self.format, self.text, self.t, at, state);
+            let line = s.line;
+            best = best.better(self.extent(line), from);
+            at = s.next;
+            state = line.state;
+        }
+        best
     }
-}
 
-// The bytes and the blocks of a file whose records ascend, in one pass; the blocks as far as the lent slices go. Counts all of them.
-fn store_up(
-    format: u8,
-    text: &[u8],
-    t: &[u8; 256],
-    n: usize,
-    load: u32,
-    bytes: &mut [u8],
-    offsets: &mut [u64],
-    sizes: &mut [u64],
-) -> usize
-    requires spells { Spells t.now × AllGood format text.now n }
-    requires n_value { rises format text.now n ≡ true }
-    ensures { (bytes.new ≡ filled load (trail format text.now n).given bytes.old)
-        × Put (blocks_given load (trail format text.now n).given) 0
-        offsets.old sizes.old result offsets.new sizes.new }
-{
-    let mut at = 0usize;
-    let mut state = 0u16;
-    let mut run = Run { first: 0, end: 0 };
-    let mut count = 0usize;
-    for _ in 0..n {
-        let s = record_scan::known_line(format, text, t, at, state);
-        let line = s.line;
-        let stop = s.stop;
-        fill_line(
-            &text[at..stop],
-            t,
-            line.first,
-            line.count,
-            line.address,
-            load,
-            bytes,
-        );
-        let next = extent(line.address, line.count, load);
-        count = run.close(next, count, offsets, sizes);
-        run = run.join(next);
-        at = s.next;
-        state = line.state;
+    // The blocks of a file whose records stand in any order: the lowest stretch is looked for again and again.
+    fn walk_any(&self, offsets: &mut [u64], sizes: &mut [u64]) -> usize
+        ensures { let given = (trail self.now.format self.now.text.now self.now.n).given in
+            Put (blocks_given self.now.load given) 0 offsets.old sizes.old result offsets.new sizes.new }
+    {
+        let mut from = 0u64;
+        let mut walk = START;
+        // stays: a step is a stretch, as long as the file says
+        while from < self.end {
+            let next = self.lowest(from);
+            walk = walk.go(next, offsets, sizes);
+            from = next.behind(self.end);
+        }
+        walk.finish(offsets, sizes)
     }
-    run.push(count, offsets, sizes)
-}
 
-// The bytes and the blocks of a sound file. Counts the blocks.
-fn store(
-    format: u8,
-    text: &[u8],
-    t: &[u8; 256],
-    n: usize,
-    load: u32,
-    end: u64,
-    ascend: bool,
-    marked: bool,
-    bytes: &mut [u8],
-    offsets: &mut [u64],
-    sizes: &mut [u64],
-    scratch: &mut [u8],
-) -> usize
-    requires spells { Spells t.now × AllGood format text.now n }
-    requires ready { Ready format text.now n load end }
-    requires ascend_value { (ascend ≡ rises format text.now n) × (marked ≡ true → Usable scratch.old) }
-    ensures { (bytes.new ≡ filled load (trail format text.now n).given bytes.old)
-        × Put (blocks_given load (trail format text.now n).given) 0
-        offsets.old sizes.old result offsets.new sizes.new
-        × (scratch.new ≡ scratch.old) }
-{
-    if ascend {
-        return store_up(format, text, t, n, load, bytes, offsets, sizes);
+    // The blocks of a file whose records stand in any order, by a bit for each byte given, in as many windows as it takes. The lent scratch is zeros, and is
+    // again in the end.
+    fn walk_scratch(&self, offsets: &mut [u64], sizes: &mut [u64], scratch: &mut [u8]) -> usize
+        requires { Usable scratch.old }
+        ensures { let given = (trail self.now.format self.now.text.now self.now.n).given in
+            Put (blocks_given self.now.load given) 0 offsets.old sizes.old result offsets.new sizes.new
+            × (scratch.new ≡ scratch.old) }
+    {
+        let base = self.load as u64;
+        let mut from = 0u64;
+        let mut walk = START;
+        // stays: a window begins where the one before it tells, which no range gives
+        while from < self.end {
+            let window = record_scan::mark_window(
+                self.format,
+                self.text,
+                self.t,
+                self.n,
+                base + from,
+                scratch,
+            );
+            walk = walk_window(scratch, from, walk, offsets, sizes);
+            bitvec::clear(scratch);
+            from = window.next.saturating_sub(base);
+        }
+        walk.finish(offsets, sizes)
     }
-    fill(format, text, t, n, load, bytes);
-    find_blocks(
-        format, text, t, n, load, end, marked, offsets, sizes, scratch,
-    )
-}
 
-// How many blocks there are: where records ascend, as many as the scan found parts; otherwise a walk writes its blocks nowhere.
-fn count_blocks(
-    format: u8,
-    text: &[u8],
-    t: &[u8; 256],
-    n: usize,
-    load: u32,
-    end: u64,
-    ascend: bool,
-    parts: u64,
-    marked: bool,
-    scratch: &mut [u8],
-) -> usize
-    requires spells { Spells t.now × AllGood format text.now n }
-    requires ready { Ready format text.now n load end }
-    requires parts_value { (ascend ≡ true → parts ≡ length (blocks_given load (trail format text.now n).given)) × (marked ≡ true → Usable scratch.old) }
-    ensures { (result ≡ length (blocks_given load (trail format text.now n).given)) × (scratch.new ≡ scratch.old) }
-{
-    if ascend {
-        return parts as usize;
+    // Whether the blocks are found by scratch: where there are more than a few, and scratch is lent and is zeros.
+    fn by_scratch(&self, scratch: &[u8]) -> bool
+        ensures { result ≡ true → Usable scratch.now }
+    {
+        !self.ascend
+            && self.parts > FEW
+            && !scratch.is_empty()
+            && scratch.len() <= SCRATCH
+            && record_scan::all_zero(scratch)
     }
-    let mut offsets = [0u64; 1];
-    let mut sizes = [0u64; 1];
-    find_blocks(
-        format,
-        text,
-        t,
-        n,
-        load,
-        end,
-        marked,
-        &mut offsets,
-        &mut sizes,
-        scratch,
-    )
-}
 
-// A sound file's bytes and blocks, if there is room for both.
-fn take(
-    format: u8,
-    text: &[u8],
-    t: &[u8; 256],
-    n: usize,
-    load: u32,
-    end: u64,
-    ascend: bool,
-    parts: u64,
-    bytes: &mut [u8],
-    offsets: &mut [u64],
-    sizes: &mut [u64],
-    scratch: &mut [u8],
-) -> Blocks
-    requires spells { Spells t.now × AllGood format text.now n }
-    requires ready { Ready format text.now n load end }
-    requires ascend_value { (ascend ≡ rises format text.now n) × (ascend ≡ true → parts ≡ length (blocks_given load (trail format text.now n).given)) }
-    ensures { Reads load (sound (trail format text.now n).given)
-        (lent bytes.old offsets.old sizes.old scratch.old) result
-        (lent bytes.new offsets.new sizes.new scratch.new) }
-{
-    if (bytes.len() as u64) < end {
-        return Blocks::Refused(Refusal::TooShort(BYTES));
+    // The blocks of a file whose records stand in any order.
+    fn find_blocks(
+        &self,
+        marked: bool,
+        offsets: &mut [u64],
+        sizes: &mut [u64],
+        scratch: &mut [u8],
+    ) -> usize
+        requires { marked ≡ true → Usable scratch.old }
+        ensures { let given = (trail self.now.format self.now.text.now self.now.n).given in
+            Put (blocks_given self.now.load given) 0 offsets.old sizes.old result offsets.new sizes.new
+            × (scratch.new ≡ scratch.old) }
+    {
+        if marked {
+            return self.walk_scratch(offsets, sizes, scratch);
+        }
+        self.walk_any(offsets, sizes)
     }
-    let marked = by_scratch(ascend, parts, scratch);
-    let count = count_blocks(
-        format, text, t, n, load, end, ascend, parts, marked, scratch,
-    );
-    if offsets.len() < count {
-        return Blocks::Refused(Refusal::TooShort(BLOCKS));
+
+    // Stores the bytes of a line.
+    fn fill_line(&self, characters: &[u8], line: Line, bytes: &mut [u8])
+        requires { line.first + 2 * line.count ≤ length characters.now }
+        ensures { bytes.new ≡ filled self.now.load (piece line.address (bytes_at characters.now line.first line.count) ∷ []) bytes.old }
+    {
+        let start = line.first as usize;
+        let base = line.address as u64;
+        let end = start + 2 * line.count as usize;
+        let (pairs, _) = characters[start..end].as_chunks::<2>();
+        for (j, pair) in pairs.iter().enumerate() {
+            put_byte(
+                bytes,
+                base + j as u64,
+                self.load,
+                record_lines::pair_of(self.t, pair[0], pair[1]),
+            );
+        }
     }
-    if sizes.len() < count {
-        return Blocks::Refused(Refusal::TooShort(BLOCKS));
+
+    // Stores the bytes of all lines.
+    fn fill(&self, bytes: &mut [u8])
+        ensures { let given = (trail self.now.format self.now.text.now self.now.n).given in
+            bytes.new ≡ filled self.now.load given bytes.old }
+    {
+        let mut at = 0usize;
+        let mut state = 0u16;
+        for _ in 0..self.n {
+            let s = record_scan::known_line(self.format, self.text, self.t, at, state);
+            let line = s.line;
+            let stop = s.stop;
+            self.fill_line(&self.text[at..stop], line, bytes);
+            at = s.next;
+            state = line.state;
+        }
     }
-    store(
-        format, text, t, n, load, end, ascend, marked, bytes, offsets, sizes, scratch,
-    );
-    Blocks::Found(count as u64)
+
+    // The bytes and the blocks of a file whose records ascend, in one pass; the blocks as far as the lent slices go. Counts all of them.
+    fn store_up(&self, bytes: &mut [u8], offsets: &mut [u64], sizes: &mut [u64]) -> usize
+        requires { self.now.ascend ≡ true }
+        ensures { let given = (trail self.now.format self.now.text.now self.now.n).given in
+            (bytes.new ≡ filled self.now.load given bytes.old)
+            × Put (blocks_given self.now.load given) 0 offsets.old sizes.old result offsets.new sizes.new }
+    {
+        let mut at = 0usize;
+        let mut state = 0u16;
+        let mut walk = START;
+        for _ in 0..self.n {
+            let s = record_scan::known_line(self.format, self.text, self.t, at, state);
+            let line = s.line;
+            let stop = s.stop;
+            self.fill_line(&self.text[at..stop], line, bytes);
+            walk = walk.go(self.extent(line), offsets, sizes);
+            at = s.next;
+            state = line.state;
+        }
+        walk.finish(offsets, sizes)
+    }
+
+    // The bytes and the blocks. Counts the blocks.
+    fn store(
+        &self,
+        marked: bool,
+        bytes: &mut [u8],
+        offsets: &mut [u64],
+        sizes: &mut [u64],
+        scratch: &mut [u8],
+    ) -> usize
+        requires { marked ≡ true → Usable scratch.old }
+        ensures { let given = (trail self.now.format self.now.text.now self.now.n).given in
+            (bytes.new ≡ filled self.now.load given bytes.old)
+            × Put (blocks_given self.now.load given) 0 offsets.old sizes.old result offsets.new sizes.new
+            × (scratch.new ≡ scratch.old) }
+    {
+        if self.ascend {
+            return self.store_up(bytes, offsets, sizes);
+        }
+        self.fill(bytes);
+        self.find_blocks(marked, offsets, sizes, scratch)
+    }
+
+    // How many blocks there are: where records ascend, as many as the scan found parts; otherwise a walk writes its blocks nowhere.
+    fn count_blocks(&self, marked: bool, scratch: &mut [u8]) -> usize
+        requires { marked ≡ true → Usable scratch.old }
+        ensures { let given = (trail self.now.format self.now.text.now self.now.n).given in
+            (result ≡ length (blocks_given self.now.load given)) × (scratch.new ≡ scratch.old) }
+    {
+        if self.ascend {
+            return self.parts as usize;
+        }
+        let mut offsets = [0u64; 1];
+        let mut sizes = [0u64; 1];
+        self.find_blocks(marked, &mut offsets, &mut sizes, scratch)
+    }
+
+    // The file's bytes and blocks, if there is room for both.
+    fn take(
+        &self,
+        bytes: &mut [u8],
+        offsets: &mut [u64],
+        sizes: &mut [u64],
+        scratch: &mut [u8],
+    ) -> Result<u64, Refusal>
+        ensures { let given = (trail self.now.format self.now.text.now self.now.n).given in
+            Reads self.now.load (sound given)
+            (lent bytes.old offsets.old sizes.old scratch.old) result
+            (lent bytes.new offsets.new sizes.new scratch.new) }
+    {
+        if (bytes.len() as u64) < self.end {
+            return Err(Refusal::TooShort(BYTES));
+        }
+        let marked = self.by_scratch(scratch);
+        let count = self.count_blocks(marked, scratch);
+        if offsets.len() < count || sizes.len() < count {
+            return Err(Refusal::TooShort(BLOCKS));
+        }
+        self.store(marked, bytes, offsets, sizes, scratch);
+        Ok(count as u64)
+    }
 }
 
 // Reads a file of records, format 0 Intel HEX, every other number S-records, from a load address on: its bytes and its blocks, in bits, counted from that
@@ -580,19 +490,24 @@ pub fn read(
     offsets: &mut [u64],
     sizes: &mut [u64],
     scratch: &mut [u8],
-) -> Blocks
+) -> Result<u64, Refusal>
     ensures { Reads load (read_text format load text.now)
         (lent bytes.old offsets.old sizes.old scratch.old) result
         (lent bytes.new offsets.new sizes.new scratch.new) }
 {
     let t = record_lines::digit_table();
-    let Scan::Whole(n, high, ascend, parts) = record_scan::scan_lines(
-        format, text, &t, load, scratch,
-    ) else {
-        return Blocks::Refused(Refusal::Malformed(0));
+    let Ok(whole) = record_scan::scan_lines(format, text, &t, load, scratch) else {
+        return Err(Refusal::Malformed(0));
     };
-    let end = above(high, load);
-    take(
-        format, text, &t, n, load, end, ascend, parts, bytes, offsets, sizes, scratch,
-    )
+    let file = File {
+        format,
+        text,
+        t: &t,
+        n: whole.lines,
+        load,
+        end: whole.high.saturating_sub(load as u64),
+        ascend: whole.ascend,
+        parts: whole.parts,
+    };
+    file.take(bytes, offsets, sizes, scratch)
 }

@@ -1,31 +1,55 @@
 -- Laws of how a line is spelled, on plain values: one for each way that a function goes.
-use mathlib.Core.Path.{◌≡◌, sym, ap, ◌∙◌}
-use mathlib.Core.Bool.{true, false}
-use mathlib.Core.List.{List}
-use Prim.Native.Nat.{ℕ, suc, ◌+◌, ◌-◌, ◌*◌, ◌%◌, ◌<◌, ◌≤◌}
-use native.Mathlib.Numerals.{add-one}
-use lib.ListN.{length, get_or, drop, drop_of_length-le}
-use lib.Seq.{drop-cons}
-use borrow.Author.Tests.{eq-eqb, ne_eqb}
-use Rattle.record_lines.specs.Digits.{is_digit, pair_at, bytes_at}
+use mathlib.Core.Path.{◌≡◌, refl, sym, ap, ◌∙◌}
+use mathlib.Core.Bool.{Bool, true, false, cond, ◌&&◌, ◌||◌}
+use mathlib.Core.List.{List, [], ◌∷◌}
+use Prim.Native.Nat.{ℕ, suc, ◌+◌, ◌-◌, ◌*◌, ◌%◌, ◌<◌}
+use native.Mathlib.Omega.{arith}
+use lib.Dec.{leb, ltb}
+use borrow.Author.Tests.{eq-eqb, ne_eqb, lt-ltb, leb-true}
+use Rattle.std.specs.Char.{is_ascii_hexdigit}
+use Rattle.std.specs.List.{prefix_len}
+use Rattle.prelude.specs.Laws.Bools.{both}
+use Rattle.prelude.specs.Pick.{pick}
+use Rattle.record_lines.specs.Digits.{value_of, is_digit, pair_at, bytes_at}
 use Rattle.record_lines.specs.Sums.{sum_of}
-use Rattle.record_reason.specs.Spelling.{cause_of, nothing, or_else, leading, sum_cause, data_typed, end_typed, typed_as}
+use Rattle.record_reason.specs.Spelling.{cause_of, nothing, or_else, leading, starts_by, spelled, spelled_by, sum_cause, data_typed, end_typed, typed_as}
 use Rattle.record_reason.specs.declared.Cause.{Cause}
 
--- ---- the first character that is no digit
+-- ---- digits, and how many stand at the front
 
-module _ (l : List ℕ) (i : ℕ) where
-  pub leading-stops : i < length l → is_digit (get_or l i 0) ≡ false → leading (drop i l) ≡ 0
-  unfolding leading
-  leading-stops h e = rw (drop-cons l i 0 h, e)
+in_ranges : (a b d : Bool) (x y z : ℕ) → (a ≡ true → x < 16) → (b ≡ true → y < 16) → (d ≡ true → z < 16)
+    → ((a || b) || d) ≡ ltb (pick a x (pick b y (pick d z 16))) 16
+in_ranges true b d x y z p q r = sym (lt-ltb x 16 (p refl))
+in_ranges false true d x y z p q r = sym (lt-ltb y 16 (q refl))
+in_ranges false false true x y z p q r = sym (lt-ltb z 16 (r refl))
+in_ranges false false false x y z p q r = refl
 
-  pub leading-goes : i < length l → is_digit (get_or l i 0) ≡ true → leading (drop i l) ≡ suc (leading (drop (i + 1) l))
-  unfolding leading
-  leading-goes h e = rw (add-one i, drop-cons l i 0 h, e)
+hex-digit : (c : ℕ) → is_ascii_hexdigit c ≡ is_digit c
+unfolding value_of
+hex-digit c =
+    in_ranges (leb 48 c && leb c 57) (leb 65 c && leb c 70) (leb 97 c && leb c 102) (c - 48) (c - 55) (c - 87)
+    (λ e. let top = leb-true c 57 (both (leb 48 c) (leb c 57) e).1 in omega arith)
+    (λ e. let top = leb-true c 70 (both (leb 65 c) (leb c 70) e).1 in omega arith)
+    (λ e. let top = leb-true c 102 (both (leb 97 c) (leb c 102) e).1 in omega arith)
 
-  pub leading-ends : length l ≤ i → leading (drop i l) ≡ 0
-  unfolding leading
-  leading-ends h = rw (drop_of_length-le l h)
+one-more : (b c : Bool) (n m : ℕ) → b ≡ c → n ≡ m → cond b (1 + n) 0 ≡ pick c (suc m) 0
+one-more true true n m p e = omega arith
+one-more false false n m p e = refl
+one-more true false n m p e = cc
+one-more false true n m p e = cc
+
+pub leading-prefix : (l : List ℕ) → prefix_len is_ascii_hexdigit l ≡ leading l
+unfolding leading
+leading-prefix [] = refl
+leading-prefix (c ∷ l) = one-more (is_ascii_hexdigit c) (is_digit c) (prefix_len is_ascii_hexdigit l) (leading l) (hex-digit c) (leading-prefix l)
+
+-- ---- by the format
+
+pub spelled-otherwise : (format : ℕ) (line : List ℕ) {begun : Bool} {x : Cause} → (format ≡ 0 → ⊥) → begun ≡ starts_by format line
+    → x ≡ spelled begun 2 0 3 255 line → x ≡ spelled_by format line
+spelled-otherwise format line h b e =
+    e ∙ ap (λ (t : Bool). spelled t 2 0 3 255 line) b
+    ∙ ap (λ (t : Bool). spelled (starts_by format line) (pick t 1 2) (pick t 4 0) (pick t 0 3) (pick t 0 255) line) (sym (ne_eqb format 0 h))
 
 -- ---- the checksum
 

@@ -1,14 +1,16 @@
 -- The loops over a file's lines: what is known before each turn, and a law for each way on.
+use Rattle.std.specs.Prelude.{None, Some}
 use mathlib.Core.Path.{◌≡◌, refl, sym, ap, ap₂, ◌∙◌}
-use mathlib.Core.Bool.{Bool, false}
+use mathlib.Core.Bool.{Bool, true, false}
 use mathlib.Core.List.{List, [], ◌∷◌}
-use Prim.Native.Nat.{ℕ, suc, ◌+◌, ◌<◌, ◌≤◌, min}
+use Prim.Native.Nat.{ℕ, zero, suc, ◌+◌, ◌<◌, ◌≤◌, min}
 use native.Mathlib.Nat.{le_antisymm}
 use native.Mathlib.Numerals.{add-one}
 use native.Mathlib.Omega.{arith}
+use native.Mathlib.Decide.{dec_lt, ℕ_discrete}
 use lib.Dec.{eqb}
 use lib.ListN.{length, drop}
-use borrow.Author.Tests.{ne_eqb}
+use borrow.Author.Tests.{eq-eqb, ne_eqb}
 use Rattle.prelude.specs.Laws.Bools.{unlike}
 use Rattle.prelude.specs.Pick.{pick}
 use Rattle.record_lines.specs.Items.{Item, gives, passes, ends, bad, as_line, Says}
@@ -21,7 +23,6 @@ use Rattle.record_scan.specs.Steps.{Stepped}
 use Rattle.record_scan.specs.Laws.Steps.{leaves_of, leaves-new}
 use Rattle.record_scan.specs.Laws.TrailLaws.{lines_at, lines-past, moved, next-at, next-state, says-state}
 use Rattle.record_scan.specs.declared.Step.{Step}
-use Rattle.record_scan.specs.declared.Fault.TheVariants.{Good, At}
 use Rattle.record_scan.specs.Outcome.{fault_of}
 use Rattle.record_reason.specs.Spelling.{nothing}
 use Rattle.record_reason.specs.Reasons.{item_of, is_end, ends_before, giver, address_in, lower, lowest_from, lowest, cause_at, told_of, why_of, Placed}
@@ -100,45 +101,60 @@ module _ (format : ℕ) (text : List ℕ) (n : ℕ) where
 
 -- ---- the first giver
 
-pub record Seeking (format : ℕ) (text : List ℕ) (n first end at state found k : ℕ) : Type 0 where
+pub record Seeking (format : ℕ) (text : List ℕ) (n first end at state k : ℕ) : Type 0 where
   pub few : k ≤ n
   pub place : at ≡ (trail format text k).at
   pub force : state ≡ (trail format text k).state
-  pub kept : found ≡ giver format text first end k
+  pub none : k ≡ giver format text first end k
   pub inside : at ≤ length text
 
 module _ (format : ℕ) (text : List ℕ) (n first end : ℕ) where
-  pub seeking-starts : Seeking format text n first end 0 0 0 0
+  -- where no line before line k gives a byte, that line tells
+  giver-next : (k : ℕ) {left : Bool} → giver format text first end k ≡ k → is_new (new_pieces (item_of format text k)) first end ≡ left
+      → giver format text first end (suc k) ≡ pick left (suc k) k
+  unfolding giver
+  giver-next k {left} e l = rw (e, eq-eqb k k refl, l)
+
+  -- the first stays the first
+  giver-stays : (m k : ℕ) → k < m → giver format text first end (suc k) ≡ k → giver format text first end m ≡ k
+  unfolding giver
+  giver-stays zero k h e = absurd (omega arith)
+  giver-stays (suc m) k h e =
+      elim (ℕ_discrete k m) [
+        | yes p ↦ ap (λ (i : ℕ). giver format text first end (suc i)) (sym p) ∙ e
+        | no p ↦
+            let w = giver-stays m k (elim (dec_lt k m) [ yes q ↦ q | no q ↦ absurd (p (omega arith)) ]) e in
+            rw (ne_eqb (giver format text first end m) m (λ z. p (sym w ∙ z))) w
+      ]
+
+  pub seeking-starts : Seeking format text n first end 0 0 0
   unfolding trail giver
-  seeking-starts = record { few = omega arith; place = refl; force = refl; kept = refl; inside = omega arith }
+  seeking-starts = record { few = omega arith; place = refl; force = refl; none = refl; inside = omega arith }
 
-  module _ {at state found k : ℕ} (w : Seeking format text n first end at state found k) where
-    pub seeking-on : k < n → {r : Step} {left : Bool} {next : ℕ} → Stepped format text at state r → left ≡ leaves_of r.line first end
-        → next ≡ pick (eqb found k) (pick left (k + 1) k) found → Seeking format text n first end r.next r.line.state next (k + 1)
-    unfolding giver
-    seeking-on h {r} {left} {next} s e b =
-        let t = moved format text k r at state w.place w.force s in
-        let own = e ∙ leaves-new first end t.says in
-        let was = w.kept in
-        record {
-          few = omega arith;
-          place = next-at format text k r t;
-          force = next-state format text k r t;
-          kept =
-              b
-              ∙ ap (λ (x : Bool). pick (eqb found k) (pick x (k + 1) k) found) own
-              ∙ ap (λ (g : ℕ). pick (eqb g k) (pick (is_new (new_pieces (item_of format text k)) first end) (k + 1) k) g) was
-              ∙ ap
-              (λ (m : ℕ).
-              pick (eqb (giver format text first end k) k) (pick (is_new (new_pieces (item_of format text k)) first end) m k)
-              (giver format text first end k))
-              (add-one k)
-              ∙ ap (giver format text first end) (sym (add-one k));
-          inside = s.inside w.inside;
-        }
+  module _ {at state k : ℕ} (w : Seeking format text n first end at state k) where
+    module _ (h : k < n) {r : Step} (s : Stepped format text at state r) {left : Bool} (e : left ≡ leaves_of r.line first end) where
+      stepped : Stepped format text (trail format text k).at (trail format text k).state r
+      stepped = moved format text k r at state w.place w.force s
 
-    pub seeking-ends : n ≤ k → found ≡ giver format text first end n
-    seeking-ends h = w.kept ∙ ap (giver format text first end) (le_antisymm w.few h)
+      next : giver format text first end (suc k) ≡ pick left (suc k) k
+      next = giver-next k (sym w.none) (sym (e ∙ leaves-new first end stepped.says))
+
+      pub seeking-on : left ≡ true → Seeking format text n first end r.next r.line.state (k + 1)
+      seeking-on y =
+          record {
+            few = omega arith;
+            place = next-at format text k r stepped;
+            force = next-state format text k r stepped;
+            none =
+                add-one k ∙ sym (next ∙ ap (λ (x : Bool). pick x (suc k) k) y) ∙ ap (giver format text first end) (sym (add-one k));
+            inside = s.inside w.inside;
+          }
+
+      pub seeking-found : left ≡ false → k ≡ giver format text first end n
+      seeking-found y = sym (giver-stays n k h (next ∙ ap (λ (x : Bool). pick x (suc k) k) y))
+
+    pub seeking-ends : n ≤ k → n ≡ giver format text first end n
+    seeking-ends h = let all = le_antisymm w.few h in sym all ∙ w.none ∙ ap (giver format text first end) all
 
 -- ---- the lowest address
 
@@ -197,10 +213,10 @@ module _ (format : ℕ) (text : List ℕ) where
 -- ---- what is answered
 
 module _ (format load : ℕ) (text : List ℕ) where
-  pub why-good : (r : Read) → fault_of r ≡ Good → told_of 0 nothing ≡ why_of format load text r
+  pub why-good : (r : Read) → fault_of r ≡ None → told_of 0 nothing ≡ why_of format load text r
   why-good (sound l) e = refl
   why-good (faulty n) e = unlike cc
 
-  pub why-at : (r : Read) (n : ℕ) → fault_of r ≡ At n → told_of n (cause_at format load text n) ≡ why_of format load text r
+  pub why-at : (r : Read) (n : ℕ) → fault_of r ≡ Some n → told_of n (cause_at format load text n) ≡ why_of format load text r
   why-at (sound l) n e = unlike cc
   why-at (faulty m) n e = let same : m ≡ n = cc in ap (λ (k : ℕ). told_of k (cause_at format load text k)) (sym same)

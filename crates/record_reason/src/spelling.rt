@@ -1,12 +1,12 @@
 // A line at fault by itself: how it is spelled, and what its type asks for. Document 02, Tickets 1 and 12.
 ghost use Rattle.std.specs.Prelude.{◌≡◌, ◌+◌, ◌-◌, ◌≤◌, ◌<◌, drop};
-ghost use Rattle.record_lines.specs.Digits.{is_digit, pair_at};
+ghost use Rattle.record_lines.specs.Digits.{pair_at};
 ghost use Rattle.record_ihex_line.specs.Format.{word_at};
 ghost use Rattle.record_srec_line.specs.Srec.{agrees};
-ghost use Rattle.record_reason.specs.Spelling.{leading, starts_by, wanted_of, sum_cause, spelled, choice, spelled_by};
+ghost use Rattle.record_reason.specs.Spelling.{leading, starts_by, wanted_of, sum_cause, spelled, spelled_by};
 ghost use Rattle.record_reason.specs.Spelling.{fields_of, hex_typed, data_typed, end_typed, srec_typed, own_cause, start_by, many_by, top_by};
 
-use crate::{Cause, made};
+use crate::{Cause, NOTHING, made};
 
 // A byte by its two digits, where they stand.
 fn byte(line: &[u8], i: u32) -> u64
@@ -23,42 +23,15 @@ fn word(line: &[u8], i: u16) -> u64
     256 * byte(line, at) + byte(line, at + 2)
 }
 
-fn is_digit(c: u8) -> bool
-    ensures { result ≡ is_digit c }
-{
-    if c < b'0' {
-        return false;
-    }
-    if c < 58 {
-        return true;
-    }
-    if c < b'A' {
-        return false;
-    }
-    if c < 71 {
-        return true;
-    }
-    if c < b'a' {
-        return false;
-    }
-    if c < 103 {
-        return true;
-    }
-    false
-}
-
 // The first character from a place on that is no digit.
 fn first_other(line: &[u8], from: usize) -> usize
     ensures { result ≡ from + leading (drop from line.now) }
 {
-    let mut i = from;
-    while i < line.len() {
-        if !is_digit(line[i]) {
-            return i;
-        }
-        i += 1;
-    }
-    i
+    from + line
+        .iter()
+        .skip(from)
+        .take_while(|c| c.is_ascii_hexdigit())
+        .count()
 }
 
 // Whether a line begins with its format's character: a colon, or S in either case.
@@ -69,72 +42,88 @@ fn starts(format: u8, line: &[u8]) -> bool
     if format == 0 {
         return c == b':';
     }
-    if c == b'S' {
-        return true;
-    }
-    c == b's'
+    c == b'S' || c == b's'
 }
 
-// The characters that a line should have: as its count says, and where that is not there those of the shortest record.
-fn wanted(line: &[u8], from: u8, body: u8, fewest: u8) -> u64
-    ensures { result ≡ wanted_of from body fewest line.now }
-{
-    let start = from as u64;
-    let rest = body as u64 + 1;
-    if (line.len() as u64) < start + 2 {
-        return start + 2 * (rest + fewest as u64);
-    }
-    start + 2 * (rest + byte(line, from as u32))
+// How the lines of a format are spelled: the character at which the digits begin, the count first; how many bytes stand between the count's and the
+// checksum beside those that the count tells; the least count; and what the bytes sum to.
+#[derive(Clone, Copy)]
+struct Frame {
+    from: u8,
+    body: u8,
+    fewest: u8,
+    target: u8,
 }
 
-// The checksum of a line whose length is right: what it is and what it should be.
-fn summed(line: &[u8], from: u8, body: u8, target: u8) -> Cause
-    ensures { result ≡ sum_cause from body target line.now }
-{
-    let n = body as u16 + record_lines::byte_at(line, from as u32) as u16;
-    let sum = record_lines::sum_pairs(line, from as u16, n + 1);
-    if sum == target {
-        return made(0, 0, 0);
-    }
-    let found = byte(line, from as u32 + 2 * (n as u32));
-    let others = record_lines::sum_pairs(line, from as u16, n) as u64;
-    made(crate::CHECKSUM, found, (256 + target as u64 - others) % 256)
-}
+const HEX: Frame = Frame {
+    from: 1,
+    body: 4,
+    fewest: 0,
+    target: 0,
+};
 
-// How a line is spelled: its first character, digits, length, count and checksum.
-fn spelling(line: &[u8], begun: bool, from: u8, body: u8, fewest: u8, target: u8) -> Cause
-    ensures { result ≡ spelled begun from body fewest target line.now }
-{
-    if !begun {
-        return made(crate::NO_START, 0, 0);
-    }
-    if !record_lines::all_digits(line, from as usize) {
-        let place = first_other(line, from as usize) as u64;
-        return made(
-            crate::NO_DIGIT,
-            place,
-            record_lines::char_at(line, place) as u64,
-        );
-    }
-    let length = wanted(line, from, body, fewest);
-    if line.len() as u64 != length {
-        return made(crate::LENGTH, line.len() as u64, length);
-    }
-    let count = byte(line, from as u32);
-    if count < fewest as u64 {
-        return made(crate::COUNT, count, fewest as u64);
-    }
-    summed(line, from, body, target)
-}
+const SREC: Frame = Frame {
+    from: 2,
+    body: 0,
+    fewest: 3,
+    target: 255,
+};
 
-// A number of Intel HEX, or of S-records.
-fn choose(format: u8, hex: u8, other: u8) -> u8
-    ensures { result ≡ choice format hex other }
-{
-    if format == 0 {
-        return hex;
+impl Frame {
+    // The characters that a line should have: as its count says, and where that is not there those of the shortest record.
+    fn wanted(self, line: &[u8]) -> u64
+        ensures { result ≡ wanted_of self.from self.body self.fewest line.now }
+    {
+        let start = self.from as u64;
+        let rest = self.body as u64 + 1;
+        if (line.len() as u64) < start + 2 {
+            return start + 2 * (rest + self.fewest as u64);
+        }
+        start + 2 * (rest + byte(line, self.from as u32))
     }
-    other
+
+    // The checksum of a line whose length is right: what it is and what it should be.
+    fn summed(self, line: &[u8]) -> Cause
+        ensures { result ≡ sum_cause self.from self.body self.target line.now }
+    {
+        let from = self.from as u16;
+        let n = self.body as u16 + record_lines::byte_at(line, self.from as u32) as u16;
+        let sum = record_lines::sum_pairs(line, from, n + 1);
+        if sum == self.target {
+            return NOTHING;
+        }
+        let found = byte(line, self.from as u32 + 2 * (n as u32));
+        let others = record_lines::sum_pairs(line, from, n) as u64;
+        let right = (256 + self.target as u64 - others) % 256;
+        made(crate::CHECKSUM, found, right)
+    }
+
+    // How a line is spelled: its first character, digits, length, count and checksum.
+    fn spelling(self, line: &[u8], begun: bool) -> Cause
+        ensures { result ≡ spelled begun self.from self.body self.fewest self.target line.now }
+    {
+        if !begun {
+            return made(crate::NO_START, 0, 0);
+        }
+        let from = self.from as usize;
+        if !record_lines::all_digits(line, from) {
+            let place = first_other(line, from) as u64;
+            return made(
+                crate::NO_DIGIT,
+                place,
+                record_lines::char_at(line, place) as u64,
+            );
+        }
+        let length = self.wanted(line);
+        if line.len() as u64 != length {
+            return made(crate::LENGTH, line.len() as u64, length);
+        }
+        let count = byte(line, self.from as u32);
+        if count < self.fewest as u64 {
+            return made(crate::COUNT, count, self.fewest as u64);
+        }
+        self.summed(line)
+    }
 }
 
 // The same by its format.
@@ -142,11 +131,10 @@ fn spelling_in(format: u8, line: &[u8]) -> Cause
     ensures { result ≡ spelled_by format line.now }
 {
     let begun = starts(format, line);
-    let from = choose(format, 1, 2);
-    let body = choose(format, 4, 0);
-    let fewest = choose(format, 0, 3);
-    let target = choose(format, 0, 255);
-    spelling(line, begun, from, body, fewest, target)
+    if format == 0 {
+        return HEX.spelling(line, begun);
+    }
+    SREC.spelling(line, begun)
 }
 
 // "Type 01 has count 0 and address field 0000, type 04 count 2 and address field 0000"
@@ -164,27 +152,19 @@ fn fields(line: &[u8], count: u64) -> Cause
 fn hex_type(line: &[u8]) -> Cause
     ensures { result ≡ hex_typed line.now }
 {
-    let kind = byte(line, 7);
-    if kind == 0 {
-        return made(0, 0, 0);
+    match byte(line, 7) {
+        0 => NOTHING,
+        1 => fields(line, 0),
+        4 => fields(line, 2),
+        kind => made(crate::TYPE, kind, 0),
     }
-    if kind == 1 {
-        return fields(line, 0);
-    }
-    if kind == 4 {
-        return fields(line, 2);
-    }
-    made(crate::TYPE, kind, 0)
 }
 
 // Whether no width or this one is in force.
 fn does_agree(state: u16, width: u64) -> bool
     ensures { result ≡ agrees state width }
 {
-    if state == 0 {
-        return true;
-    }
-    state as u64 == width
+    state == 0 || state as u64 == width
 }
 
 // S1 and S3.
@@ -199,7 +179,7 @@ fn data_type(line: &[u8], width: u8, state: u16) -> Cause
     if count <= w {
         return made(crate::COUNT, count, w + 1);
     }
-    made(0, 0, 0)
+    NOTHING
 }
 
 // S9 and S7.
@@ -255,16 +235,6 @@ pub fn start_of(format: u8, line: &[u8], state: u16) -> u64
     65_536 * upper + word(line, 8)
 }
 
-// How many data bytes a count leaves behind the address and the checksum.
-fn left(count: u64, other: u64) -> u64
-    ensures { (result ≡ count - other) × (result ≤ count) }
-{
-    if count < other {
-        return 0;
-    }
-    count - other
-}
-
 // How many bytes it gives.
 pub fn many_of(format: u8, line: &[u8]) -> u64
     ensures { (result ≡ many_by format line.now) × (result < 256) }
@@ -273,9 +243,9 @@ pub fn many_of(format: u8, line: &[u8]) -> u64
         return byte(line, 1);
     }
     if record_lines::char_at(line, 1) == b'1' {
-        return left(byte(line, 2), 3);
+        return byte(line, 2).saturating_sub(3);
     }
-    left(byte(line, 2), 5)
+    byte(line, 2).saturating_sub(5)
 }
 
 // One more than the last address that there is.

@@ -1,4 +1,5 @@
 -- Laws of lines, trails and reading, on plain values.
+use Rattle.std.specs.Prelude.{None, Some}
 use mathlib.Core.Path.{◌≡◌, refl, sym, ap, ap₂, ◌∙◌}
 use mathlib.Core.Bool.{Bool, true, false, ◌&&◌, ◌||◌, and-false, and_assoc}
 use mathlib.Core.List.{List, [], ◌∷◌, ◌++◌, append-nil}
@@ -25,7 +26,6 @@ use Rattle.record_scan.specs.Laws.TrailLaws.{high-append, new-above, last-append
 use Rattle.record_scan.specs.Steps.{first_by, highest, leaves_by, lower_by, RoomAbove, RoomIs, FreeIs, edge_by, free_by, AdmitIs, last_end, parts_of, begins_by}
 use Rattle.record_scan.specs.Once.{is_free, all_new}
 use Rattle.record_scan.specs.Laws.Steps.{admits, high_after}
-use Rattle.record_scan.specs.declared.Admit.TheVariants.{No, High}
 use Rattle.record_scan.specs.declared.Free.{Free}
 
 bool_cases : (b : Bool) → (b ≡ true) ⊎ (b ≡ false)
@@ -331,31 +331,31 @@ new-zero [] first = refl
 new-zero (p ∷ l) first = rw (or_right (leb (end_of p) first) (le-leb 0 p.address (omega arith)), new-zero l first)
 
 module _ (look : Bool) (load : ℕ) (given : List Piece) (kind address count high edge : ℕ) where
-  pub admit-pass : (top : ℕ) → is_new given edge top ≡ true → kind ≡ 2 → AdmitIs look load given kind address count high edge (High high top)
+  pub admit-pass : (top : ℕ) → is_new given edge top ≡ true → kind ≡ 2 → AdmitIs look load given kind address count high edge (Some (high, top))
   admit-pass top f e = rw e (refl, λ z. refl, λ z. refl, refl, f)
 
-  pub admit-other : (kind ≡ 2 → ⊥) → (kind ≡ 1 → ⊥) → AdmitIs look load given kind address count high edge No
+  pub admit-other : (kind ≡ 2 → ⊥) → (kind ≡ 1 → ⊥) → AdmitIs look load given kind address count high edge None
   admit-other e f = rw (ne_eqb kind 2 e, ne_eqb kind 1 f)
 
   module _ (bytes : kind ≡ 1) where
-    pub admit-empty : (top : ℕ) → is_new given edge top ≡ true → count ≡ 0 → AdmitIs look load given kind address count high edge (High high top)
+    pub admit-empty : (top : ℕ) → is_new given edge top ≡ true → count ≡ 0 → AdmitIs look load given kind address count high edge (Some (high, top))
     admit-empty top f e = rw (bytes, e) (refl, λ z. refl, λ z. refl, refl, f)
 
     module _ (some : count ≡ 0 → ⊥) where
-      pub admit-below : address < load → AdmitIs look load given kind address count high edge No
+      pub admit-below : address < load → AdmitIs look load given kind address count high edge None
       admit-below h = rw (bytes, ne_eqb count 0 some, lt-leb load address h)
 
       module _ (above : load ≤ address) where
-        pub admit-past : 4294967296 < address + count → AdmitIs look load given kind address count high edge No
+        pub admit-past : 4294967296 < address + count → AdmitIs look load given kind address count high edge None
         admit-past h = rw (bytes, ne_eqb count 0 some, le-leb load address above, lt-leb (address + count) 4294967296 h)
 
         module _ (within : address + count ≤ 4294967296) where
-          pub admit-twice : is_new given address (address + count) ≡ false → AdmitIs look load given kind address count high edge No
+          pub admit-twice : is_new given address (address + count) ≡ false → AdmitIs look load given kind address count high edge None
           admit-twice h = rw (bytes, ne_eqb count 0 some, le-leb load address above, le-leb (address + count) 4294967296 within, h)
 
           pub admit-fine : (h top : ℕ) → h ≡ max high (address + count)
               → (is_new given address (address + count) ≡ true) × (is_new given (address + count) top ≡ true)
-              → AdmitIs look load given kind address count high edge (High h top)
+              → AdmitIs look load given kind address count high edge (Some (h, top))
           admit-fine h top e n =
               rw (
                 bytes,
@@ -369,7 +369,7 @@ module _ (look : Bool) (load : ℕ) (given : List Piece) (kind address count hig
 
           -- its bytes may be new
           pub admit-loose : (h : ℕ) → h ≡ max high (address + count) → (look ≡ true → is_new given address (address + count) ≡ true)
-              → AdmitIs look load given kind address count high edge (High h 0)
+              → AdmitIs look load given kind address count high edge (Some (h, 0))
           admit-loose h e n =
               rw (
                 bytes,

@@ -1,5 +1,6 @@
 -- The two loops over a file's lines: what is known before each turn, and a law for each way on.
-use mathlib.Core.Path.{◌≡◌, refl, sym, ap, subst, ◌∙◌}
+use Rattle.std.specs.Prelude.{None, Some, Err, Result}
+use mathlib.Core.Path.{◌≡◌, refl, sym, ap, ap₂, subst, ◌∙◌}
 use mathlib.Core.Bool.{Bool, true, false, ◌&&◌}
 use mathlib.Core.List.{List, []}
 use Prim.Native.Nat.{ℕ, ◌+◌, ◌<◌, ◌≤◌}
@@ -18,22 +19,19 @@ use Rattle.record_lines.specs.Lines.{lines_of}
 use Rattle.record_lines.specs.Pieces.{Piece}
 use Rattle.record_lines.specs.declared.Line.{Line}
 use Rattle.record_scan.specs.Outcome.{fault_of}
-use Rattle.record_scan.specs.declared.Fault.TheVariants.{Good, At}
 use Rattle.record_scan.specs.Reading.{format_by, Read, sound, faulty, new_pieces, is_new, is_none, go_on, read_from, read_text}
 use Rattle.record_scan.specs.Trail.{Trail, trail, line_at, item_at, next_of}
 use Rattle.record_scan.specs.Laws.TrailLaws.{lines_at, lines-past, said, moved, next-at, next-state, next-given}
-use Rattle.record_scan.specs.Steps.{first_by, AllGood, Stepped, highest, rises, Scanned, ScanIs}
+use Rattle.record_scan.specs.Steps.{first_by, AllGood, Stepped, highest, rises, Scanned, ScanIs, whole_file}
 use Rattle.record_scan.specs.Steps.{lower_by, RoomAbove, FreeIs, all_free, free_by, AdmitIs, last_end, parts_of, begins_by, nowhere, looks_by, walk_of, WalkIs}
 use Rattle.record_scan.specs.Once.{is_free, new_at, new_line, Once}
 use Rattle.record_scan.specs.Laws.Steps.{leaves_of, leaves-new, admits}
 use Rattle.record_scan.specs.declared.Step.{Step}
 use Rattle.record_scan.specs.declared.Free.{Free}
-use Rattle.record_scan.specs.declared.Admit.TheVariants.{High}
-use Rattle.record_scan.specs.declared.Scan.{Scan}
 use Rattle.record_scan.specs.declared.Walk.{Walk}
-use Rattle.record_scan.specs.declared.Scan.TheVariants.{Whole, Broken}
 use Rattle.record_scan.proofs.Laws.{allowed-good, new_none, room-more, free_more, high-new, on', off', end'}
 use Rattle.record_scan.proofs.Laws.{laters, laters-faulty, laters-sound, edge-new, parts-new, may, may-not, then-new, not_end, ends-near}
+use Rattle.record_scan.specs.declared.Whole.{Whole}
 
 -- ---- whether bytes are new
 
@@ -156,7 +154,7 @@ module _ (format load : ℕ) (text : List ℕ) (strict : Bool) where
     abbrev ended : Bool → ℕ → Walk
     ended whole line = walk_of n sure whole line high ascend parts
 
-    answered : (whole : Bool) (line : ℕ) → (Once format text n → ScanIs format load text (pick whole (Whole n high ascend parts) (Broken line)))
+    answered : (whole : Bool) (line : ℕ) → (Once format text n → ScanIs format load text (pick whole (whole_file n high ascend parts) (Err line)))
         → WalkIs format load text strict (ended whole line)
     answered whole line a = record { good = w.good; near = w.near; twice = w.twice; firm = w.firm; sure = w.certain; scan = a }
 
@@ -198,7 +196,7 @@ module _ (format load : ℕ) (text : List ℕ) (strict : Bool) where
           ∙ laters-faulty n 0 ∙ ap faulty (omega arith)
 
       pub walking_on : (h' top : ℕ) {look : Bool} → look ≡ looks_by strict parts
-          → AdmitIs look load now.given kind r.line.address r.line.count high free.edge (High h' top)
+          → AdmitIs look load now.given kind r.line.address r.line.count high free.edge (Some (h', top))
           → {found up : Bool} → found ≡ leaves_of r.line 0 high → up ≡ (ascend && found) → {safe : Bool} → safe ≡ (sure && ltb 0 top) → {more : ℕ}
           → (more ≡ begins_by kind r.line.address r.line.count free.edge) × (more ≤ 1) → {after : Free}
           → after ≡ free_by free top kind r.line.address r.line.count
@@ -263,13 +261,13 @@ module _ (format load : ℕ) (text : List ℕ) (strict : Bool) where
       walking-closes k = answered (leb (length text) r.next) (n + 1) (λ o.
           elim (dec_lt r.next (length text)) [
             | yes p ↦
-                subst (ScanIs format load text) (sym (pick-false (Whole n high ascend parts) (Broken (n + 1)) (lt-leb (length text) r.next p)))
+                subst (ScanIs format load text) (sym (pick-false (whole_file n high ascend parts) (Err (n + 1)) (lt-leb (length text) r.next p)))
                 (closed k o
                 ∙ ap (λ (ls : List (List ℕ)). laters n (pick (is_none ls) (sound now.given) (faulty 1)))
                 (lines_at text (next_of text now.at) (subst (λ (x : ℕ). x < length text) stepped.next p))
                 ∙ laters-faulty n 1)
             | no p ↦
-                subst (ScanIs format load text) (sym (pick_true (Whole n high ascend parts) (Broken (n + 1)) (le-leb (length text) r.next (omega arith))))
+                subst (ScanIs format load text) (sym (pick_true (whole_file n high ascend parts) (Err (n + 1)) (le-leb (length text) r.next (omega arith))))
                 (record {
                   reads =
                       closed k o
@@ -296,12 +294,16 @@ module _ (format load : ℕ) (text : List ℕ) (strict : Bool) where
         (lines-past text now.at (subst (λ (x : ℕ). length text ≤ x) w.place h))
         ∙ laters-faulty n 0 ∙ ap faulty (omega arith))
 
+-- a walk that has met no end, as it stands
+pub not_whole : (w : Walk) → w.whole ≡ false → w.line ≡ w.lines → walk_of w.lines w.sure false w.lines w.high w.ascend w.parts ≡ w
+not_whole w p q = ap₂ (λ (b : Bool) (n : ℕ). walk_of w.lines w.sure b n w.high w.ascend w.parts) (sym p) (sym q)
+
 -- ---- what is answered
 
-module _ (format load : ℕ) (text : List ℕ) (r : Scan) (p : ScanIs format load text r) where
-  pub fault-none : (lines high : ℕ) (ascend : Bool) (parts : ℕ) → r ≡ Whole lines high ascend parts → Good ≡ fault_of (read_text format load text)
+module _ (format load : ℕ) (text : List ℕ) (r : Result Whole ℕ) (p : ScanIs format load text r) where
+  pub fault-none : (lines high : ℕ) (ascend : Bool) (parts : ℕ) → r ≡ whole_file lines high ascend parts → None ≡ fault_of (read_text format load text)
   fault-none lines high ascend parts e =
       let w : Scanned format load text lines high ascend parts = subst (ScanIs format load text) e p in sym (ap fault_of w.reads)
 
-  pub fault-some : (line : ℕ) → r ≡ Broken line → At line ≡ fault_of (read_text format load text)
+  pub fault-some : (line : ℕ) → r ≡ Err line → Some line ≡ fault_of (read_text format load text)
   fault-some line e = let w : read_text format load text ≡ faulty line = subst (ScanIs format load text) e p in sym (ap fault_of w)

@@ -1,4 +1,5 @@
 -- Uniqueness over each public function's own contract: two answers that meet it for the same file are equal.
+use Rattle.std.specs.Prelude.{Option, Err, Result, Ok}
 use mathlib.Core.Path.{◌≡◌, refl, sym, ap, ap₂, subst, ◌∙◌}
 use mathlib.Core.Bool.{Bool, true, false}
 use mathlib.Core.List.{List}
@@ -15,15 +16,12 @@ use Rattle.record_lines.specs.declared.Line.{Line}
 use Rattle.record_lines.specs.Laws.Items.{one_line}
 use Rattle.record_lines.specs.Pieces.{Piece}
 use Rattle.record_scan.specs.Reading.{sound, faulty, read_text}
-use Rattle.record_scan.specs.Steps.{highest, rises, nowhere, parts_of, Stepped, ScanIs, Scanned}
+use Rattle.record_scan.specs.Steps.{highest, rises, nowhere, parts_of, Stepped, ScanIs, Scanned, whole_file}
 use Rattle.record_scan.specs.Once.{is_free}
 use Rattle.record_scan.specs.Trail.{trail}
 use Rattle.record_scan.specs.Windows.{Windowed}
 use Rattle.record_scan.specs.declared.Window.{Window}
-use Rattle.record_scan.specs.declared.Fault.{Fault}
 use Rattle.record_scan.specs.declared.Step.{Step}
-use Rattle.record_scan.specs.declared.Scan.{Scan}
-use Rattle.record_scan.specs.declared.Scan.TheVariants.{Whole, Broken}
 use Rattle.record_scan.proofs.all_zero.Kinds as all-zero-kinds
 use Rattle.record_scan.proofs.all_zero.Reads as all-zero-reads
 use Rattle.record_scan.proofs.leaves.Kinds as leaves-kinds
@@ -40,9 +38,10 @@ use Rattle.record_scan.proofs.search_line.Kinds as search-line-kinds
 use Rattle.record_scan.proofs.search_line.Reads as search-line-reads
 use Rattle.record_scan.proofs.take_line.Kinds as take-line-kinds
 use Rattle.record_scan.proofs.take_line.Reads as take-line-reads
+use Rattle.record_scan.specs.declared.Whole.{Whole}
 
 -- the answer, and the scratch afterwards
-pub line-at-fault-unique : OneView 2 line-at-fault-kinds.ps line-at-fault-kinds.r line-at-fault-reads.Learnt (Fault × List ℕ)
+pub line-at-fault-unique : OneView 2 line-at-fault-kinds.ps line-at-fault-kinds.r line-at-fault-reads.Learnt ((Option ℕ) × List ℕ)
     (λ κs x e. (x, e.1.1.1.0.now))
 line-at-fault-unique κs a x y e f p q = paired (determined p.0 q.0) (determined p.1 q.1)
 
@@ -74,19 +73,19 @@ module _ (format load : ℕ) (text : List ℕ) where
   sound-or-faulty : {l : List Piece} {n : ℕ} → read_text format load text ≡ sound l → read_text format load text ≡ faulty n → ⊥
   sound-or-faulty p q = let e = sym p ∙ q in unlike cc
 
-  one-whole : (n m h k : ℕ) (a b : Bool) (x y : ℕ) → Scanned format load text n h a x → Scanned format load text m k b y → Whole n h a x ≡ Whole m k b y
+  one-whole : (n m h k : ℕ) (a b : Bool) (x y : ℕ) → Scanned format load text n h a x → Scanned format load text m k b y → whole_file n h a x ≡ whole_file m k b y
   one-whole n m h k a b x y p q =
       let lines : n ≡ m = omega (arith, p.all, q.all) in
       let tops : h ≡ k = p.top ∙ ap (λ (j : ℕ). highest (trail format text j).given) lines ∙ sym q.top in
       let orders : a ≡ b = p.order ∙ ap (rises format text) lines ∙ sym q.order in
       let begun : x ≡ y = p.begun ∙ ap (λ (j : ℕ). parts_of nowhere (trail format text j).given) lines ∙ sym q.begun in
-      ap₂ (λ (j : ℕ) (i : ℕ). Whole j i a x) lines tops ∙ ap₂ (Whole m k) orders begun
+      ap₂ (λ (j : ℕ) (i : ℕ). whole_file j i a x) lines tops ∙ ap₂ (whole_file m k) orders begun
 
-  one-scan : (r s : Scan) → ScanIs format load text r → ScanIs format load text s → r ≡ s
-  one-scan (Whole n h a x) (Whole m k b y) p q = one-whole n m h k a b x y p q
-  one-scan (Whole n h a x) (Broken m) p q = absurd (sound-or-faulty p.reads q)
-  one-scan (Broken n) (Whole m k b y) p q = absurd (sound-or-faulty q.reads p)
-  one-scan (Broken n) (Broken m) p q = let e = sym p ∙ q in let same : n ≡ m = cc in ap Broken same
+  one-scan : (r s : Result Whole ℕ) → ScanIs format load text r → ScanIs format load text s → r ≡ s
+  one-scan (Ok w) (Ok v) p q = one-whole w.lines v.lines w.high v.high w.ascend v.ascend w.parts v.parts p q
+  one-scan (Ok w) (Err m) p q = absurd (sound-or-faulty p.reads q)
+  one-scan (Err n) (Ok w) p q = absurd (sound-or-faulty q.reads p)
+  one-scan (Err n) (Err m) p q = let e = sym p ∙ q in let same : n ≡ m = cc in ap Err same
 
 -- ---- a window
 
@@ -135,6 +134,6 @@ mark-window-unique κs a x y e f p q =
     paired same.0 same.1
 
 -- the answer, and the scratch afterwards
-pub scan-lines-unique : OneView 3 scan-lines-kinds.ps scan-lines-kinds.r scan-lines-reads.Learnt (Scan × List ℕ)
+pub scan-lines-unique : OneView 3 scan-lines-kinds.ps scan-lines-kinds.r scan-lines-reads.Learnt ((Result Whole ℕ) × List ℕ)
     (λ κs x e. (x, e.1.1.1.1.0.now))
 scan-lines-unique κs a x y e f p q = paired (one-scan a.0 a.1.1.1.0 a.1.0.now x y p.0 q.0) (determined p.1 q.1)

@@ -1,17 +1,16 @@
 -- Lines in a window of addresses, and windows one after the other: what is known before each turn, and a law for each way on.
+use Rattle.std.specs.Prelude.{Err}
 use mathlib.Core.Path.{◌≡◌, refl, sym, ap, subst, ◌∙◌}
 use mathlib.Core.Bool.{Bool, true, false, ◌&&◌, ◌||◌, and-true, and-false}
 use mathlib.Core.List.{List, [], ◌∷◌, ◌++◌}
 use mathlib.Core.Logic.{inl, inr, ⊎_elim}
 use Prim.Native.Nat.{ℕ, zero, suc, ◌+◌, ◌-◌, ◌*◌, ◌<◌, ◌≤◌, max, min}
-use native.Mathlib.Numerals.{add-one}
 use native.Mathlib.Nat.{le_antisymm}
 use native.Mathlib.Omega.{arith}
 use native.Mathlib.Decide.{dec_lt, ℕ_discrete}
 use lib.Dec.{leb}
-use lib.ListN.{length, replicate, get_or, drop, drop_of_length-le}
-use lib.Seq.{drop-cons}
-use borrow.Author.Tests.{le-leb, lt-leb, eq-eqb, ne_eqb}
+use lib.ListN.{length, replicate, get_or}
+use borrow.Author.Tests.{le-leb, lt-leb}
 use Rattle.prelude.specs.Laws.Bools.{both, clash, either, or_left}
 use Rattle.prelude.specs.Pick.{pick}
 use Rattle.bitvec.specs.Bits.{bit_at, Bytes}
@@ -28,11 +27,10 @@ use Rattle.record_scan.specs.Trail.{trail, item_at}
 use Rattle.record_scan.specs.Laws.TrailLaws.{moved, next-at, next-state, next-given}
 use Rattle.record_scan.specs.Once.{is_free, new_at, all_new, new_line, Once}
 use Rattle.record_scan.specs.Steps.{AllGood, Stepped, nowhere, ScanIs, WalkIs, scan_of}
-use Rattle.record_scan.specs.Windows.{all_zero, Marked, window_end, Nearer, Windowed, FirstTwice}
+use Rattle.record_scan.specs.Windows.{Marked, window_end, Nearer, Windowed, FirstTwice}
 use Rattle.record_scan.specs.declared.Step.{Step}
 use Rattle.record_scan.specs.declared.Walk.{Walk}
 use Rattle.record_scan.specs.declared.Window.{Window}
-use Rattle.record_scan.specs.declared.Scan.TheVariants.{Broken}
 use Rattle.record_scan.proofs.Laws.{or_right, new-append, new-within}
 use Rattle.record_scan.proofs.Loops.{up_to}
 
@@ -355,19 +353,6 @@ module _ (next first end top : ℕ) where
       }
 
 -- scratch that is all 0
-module _ (l : List ℕ) (i : ℕ) where
-  pub zero-stop : i < length l → (get_or l i 0 ≡ 0 → ⊥) → all_zero (drop i l) ≡ false
-  unfolding all_zero
-  zero-stop h e = rw (drop-cons l i 0 h, ne_eqb (get_or l i 0) 0 e)
-
-  pub zero-on : i < length l → get_or l i 0 ≡ 0 → all_zero (drop i l) ≡ all_zero (drop (i + 1) l)
-  unfolding all_zero
-  zero-on h e = rw (add-one i, drop-cons l i 0 h, eq-eqb (get_or l i 0) 0 e)
-
-  pub zero-done : length l ≤ i → all_zero (drop i l) ≡ true
-  unfolding all_zero
-  zero-done h = rw (drop_of_length-le l h)
-
 pub still-zero : {m l : List ℕ} → m ≡ l → l ≡ cleared l → m ≡ cleared m
 still-zero {m} {l} e z = subst (λ (k : List ℕ). k ≡ cleared k) (sym e) z
 
@@ -436,7 +421,7 @@ module _ (format load : ℕ) (text : List ℕ) (strict : Bool) (w : Walk) (p : W
         | no l ↦ or_right (is_free (trail format text k).given x) (p.near k (omega (arith, f.few)) x (omega arith))
       ])
 
-  pub told-twice : (r : ℕ) → FirstTwice format text w.lines r → r < w.lines → ScanIs format load text (Broken r)
+  pub told-twice : (r : ℕ) → FirstTwice format text w.lines r → r < w.lines → ScanIs format load text (Err r)
   told-twice r f l = p.twice r l (once-to r f) (f.twice l)
 
   pub told-once : (r : ℕ) → FirstTwice format text w.lines r → w.lines ≤ r → ScanIs format load text (scan_of w)

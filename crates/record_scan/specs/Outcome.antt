@@ -1,8 +1,7 @@
 -- What a caller is told of a file.
+use Rattle.std.specs.Prelude.{Option, ℕ, None, Some}
 use Rattle.record_scan.specs.Reading.{Read, sound, faulty}
-use Rattle.record_scan.specs.declared.Fault.{Fault}
-use Rattle.record_scan.specs.declared.Fault.TheVariants.{Good, At}
 
-abbrev pub fault_of : Read → Fault
-fault_of (sound pieces) = Good
-fault_of (faulty line) = At line
+abbrev pub fault_of : Read → Option ℕ
+fault_of (sound pieces) = None
+fault_of (faulty line) = Some line

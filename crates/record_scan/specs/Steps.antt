@@ -1,5 +1,5 @@
 -- What the steps of reading owe each other.
-use Rattle.std.specs.Prelude.{◌≡◌, Bool, true, false, ◌&&◌, ◌||◌, List, [], ◌∷◌, ℕ, zero, suc, ◌+◌, ◌-◌, ◌*◌, ◌<◌, ◌≤◌, max, min, ltb, leb, eqb, length, take, drop}
+use Rattle.std.specs.Prelude.{◌≡◌, Bool, true, false, ◌&&◌, ◌||◌, List, [], ◌∷◌, ℕ, zero, suc, ◌+◌, ◌-◌, ◌*◌, ◌<◌, ◌≤◌, max, min, ltb, leb, eqb, length, take, drop, Err, Result, None, Option, Ok, Some}
 use Rattle.prelude.specs.Pick.{pick}
 use Rattle.record_lines.specs.Digits.{pair_at}
 use Rattle.record_lines.specs.Items.{bad, Says}
@@ -11,11 +11,8 @@ use Rattle.record_scan.specs.Trail.{trail, line_at, item_at, next_of}
 use Rattle.record_scan.specs.Once.{is_free, new_at, new_line, Once}
 use Rattle.record_scan.specs.declared.Step.{Step}
 use Rattle.record_scan.specs.declared.Free.{Free}
-use Rattle.record_scan.specs.declared.Admit.{Admit}
-use Rattle.record_scan.specs.declared.Admit.TheVariants.{No, High}
-use Rattle.record_scan.specs.declared.Scan.{Scan}
 use Rattle.record_scan.specs.declared.Walk.{Walk}
-use Rattle.record_scan.specs.declared.Scan.TheVariants.{Whole, Broken}
+use Rattle.record_scan.specs.declared.Whole.{Whole}
 
 -- Where in a line its data's first digit stands.
 abbrev pub first_by : ℕ → List ℕ → ℕ
@@ -113,9 +110,9 @@ abbrev pub all_free : Free
 all_free = record { low = nowhere; edge = nowhere; top = nowhere }
 
 -- Whether a line may stand. Where it is not looked for whether its bytes are new, nothing is known of the room above it.
-abbrev pub AdmitIs : Bool → ℕ → List Piece → ℕ → ℕ → ℕ → ℕ → ℕ → Admit → Type 0
-AdmitIs look load given kind address count high edge No = admits_by load given kind address count ≡ false
-AdmitIs look load given kind address count high edge (High h top) =
+abbrev pub AdmitIs : Bool → ℕ → List Piece → ℕ → ℕ → ℕ → ℕ → ℕ → Option (ℕ × ℕ) → Type 0
+AdmitIs look load given kind address count high edge None = admits_by load given kind address count ≡ false
+AdmitIs look load given kind address count high edge (Some (h, top)) =
     (admits_by load [] kind address count ≡ true) × (look ≡ true → admits_by load given kind address count ≡ true)
     × (0 < top → admits_by load given kind address count ≡ true) × (h ≡ high_by kind address count high)
     × (is_new given (edge_by kind address count edge) top ≡ true)
@@ -141,9 +138,12 @@ pub record Scanned (format load : ℕ) (text : List ℕ) (lines high : ℕ) (asc
   pub good : AllGood format text lines
   pub once : Once format text lines
 
-abbrev pub ScanIs : ℕ → ℕ → List ℕ → Scan → Type 0
-ScanIs format load text (Whole lines high ascend parts) = Scanned format load text lines high ascend parts
-ScanIs format load text (Broken line) = read_text format load text ≡ faulty line
+abbrev pub whole_file : ℕ → ℕ → Bool → ℕ → Result Whole ℕ
+whole_file lines high ascend parts = Ok (record { lines = lines; high = high; ascend = ascend; parts = parts })
+
+abbrev pub ScanIs : ℕ → ℕ → List ℕ → Result Whole ℕ → Type 0
+ScanIs format load text (Ok w) = Scanned format load text w.lines w.high w.ascend w.parts
+ScanIs format load text (Err line) = read_text format load text ≡ faulty line
 
 -- While there are few parts, or always.
 abbrev pub looks_by : Bool → ℕ → Bool
@@ -154,8 +154,8 @@ abbrev pub walk_of : ℕ → Bool → Bool → ℕ → ℕ → Bool → ℕ → 
 walk_of lines sure whole line high ascend parts =
     record { lines = lines; sure = sure; whole = whole; line = line; high = high; ascend = ascend; parts = parts }
 
-abbrev pub scan_of : Walk → Scan
-scan_of w = pick w.whole (Whole w.lines w.high w.ascend w.parts) (Broken w.line)
+abbrev pub scan_of : Walk → Result Whole ℕ
+scan_of w = pick w.whole (whole_file w.lines w.high w.ascend w.parts) (Err w.line)
 
 pub record WalkIs (format load : ℕ) (text : List ℕ) (strict : Bool) (w : Walk) : Type 0 where
   pub good : AllGood format text w.lines

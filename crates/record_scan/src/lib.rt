@@ -8,7 +8,7 @@ ghost use Rattle.record_lines.specs.Spelling.{Spells};
 ghost use Rattle.record_scan.specs.Reading.{format_by, read_text};
 ghost use Rattle.record_scan.specs.Trail.{trail, line_at};
 ghost use Rattle.record_scan.specs.Steps.{first_by, IsGood, AllGood, long_by, stop_by, Stepped, leaves_by, highest, ScanIs};
-ghost use Rattle.record_scan.specs.Steps.{lower_by, RoomAbove, RoomIs, FreeIs, all_free, free_by, AdmitIs, begins_by, looks_by, walk_of, WalkIs, scan_of};
+ghost use Rattle.record_scan.specs.Steps.{lower_by, RoomAbove, RoomIs, FreeIs, free_by, AdmitIs, begins_by, looks_by, walk_of, WalkIs, scan_of};
 ghost use Rattle.record_scan.specs.Outcome.{fault_of};
 ghost use Rattle.record_scan.specs.Windows.{all_zero, window_end, Nearer, Windowed, FirstTwice};
 
@@ -22,12 +22,45 @@ pub struct Step {
     pub next: usize,
 }
 
+// A file: its format, its text, and a table that spells the digits.
+#[derive(Clone, Copy)]
+struct File<'a> {
+    format: u8,
+    text: &'a [u8],
+    t: &'a [u8; 256],
+    ghost spells: { Spells t.now },
+}
+
 // What is known to be free between the lines that were read: nothing is given below `low`, and nothing from `edge` on and below `top`.
 #[derive(Clone, Copy)]
 pub struct Free {
     pub low: u64,
     pub edge: u64,
     pub top: u64,
+}
+
+impl Free {
+    // Whether bytes lie in the gap.
+    fn holds(self, first: u64, end: u64) -> bool
+        ensures { result ≡ (leb self.edge first && leb end self.top) }
+    {
+        self.edge <= first && end <= self.top
+    }
+
+    // What is free behind a line that may stand.
+    fn after(self, top: u64, line: Line) -> Free
+        ensures { result ≡ free_by self top line.kind line.address line.count }
+    {
+        if line.kind != record_lines::DATA || line.count == 0 {
+            return Free { top, ..self };
+        }
+        let first = line.address as u64;
+        Free {
+            low: self.low.min(first),
+            edge: first + line.count as u64,
+            top,
+        }
+    }
 }
 
 // A window of addresses that was marked: the first line that gives a byte in it twice, or how many lines there are; and the lowest address behind it that
@@ -39,7 +72,7 @@ pub struct Window {
 }
 
 // How far a walk over the lines came: how many it passed, and whether it is sure that they give no byte twice. If they do not, the file is `whole`, with what
-// `Scan` tells of it, or at fault in line `line`.
+// `Whole` tells of it, or at fault in line `line`.
 #[derive(Clone, Copy)]
 pub struct Walk {
     pub lines: usize,
@@ -57,30 +90,34 @@ const NOWHERE: u64 = 8_589_934_592;
 // The room above bytes where it is not looked for.
 const UNKNOWN: u64 = 8_589_934_593;
 
+// What is free before the first line: everything. And a walk that has passed none.
+const NOTHING_GIVEN: Free = Free {
+    low: NOWHERE,
+    edge: NOWHERE,
+    top: NOWHERE,
+};
+
+const START: Walk = Walk {
+    lines: 0,
+    sure: true,
+    whole: false,
+    line: 0,
+    high: 0,
+    ascend: true,
+    parts: 0,
+};
+
 // So many parts are held against the lines before them by reading those again, before scratch is used.
 const FEW: u64 = 16;
 
-// Whether a line may stand where it does: the highest end of the bytes given behind it, and how far up from its own end nothing is given; 0 where it was
-// not looked for whether its bytes are new.
+// A sound file: how many lines stand before its end record, the highest end of its bytes, whether its records ascend, and how many of those with bytes do not
+// begin where the one before them ends.
 #[derive(Clone, Copy)]
-pub enum Admit {
-    No,
-    High(u64, u64),
-}
-
-// How many lines stand before the end record of a sound file, the highest end of its bytes, whether its records ascend, and how many of those with bytes
-// do not begin where the one before them ends; or the line at fault.
-#[derive(Clone, Copy)]
-pub enum Scan {
-    Whole(usize, u64, bool, u64),
-    Broken(usize),
-}
-
-// Whether a file is good, or its first line at which no good file can go on, from 0.
-#[derive(Clone, Copy)]
-pub enum Fault {
-    Good,
-    At(u64),
+pub struct Whole {
+    pub lines: usize,
+    pub high: u64,
+    pub ascend: bool,
+    pub parts: u64,
 }
 
 // What a line says in a format: 0 is Intel HEX, every other number S-records.
@@ -132,7 +169,7 @@ fn stop_by(format: u8, text: &[u8], t: &[u8; 256], at: usize) -> usize
     if left < 4 {
         return text.len();
     }
-    at + record_lines::least(long_by(format, text, t, at), left)
+    at + long_by(format, text, t, at).min(left)
 }
 
 // The line that begins at a place, whose end is searched for, by a table that spells the digits; behind the text it is empty.
@@ -141,8 +178,8 @@ pub fn search_line(format: u8, text: &[u8], t: &[u8; 256], at: usize, state: u16
 {
     let cut = record_lines::line_from(text, at);
     let stop = cut.stop;
-    let end = record_lines::least(stop, text.len());
-    let start = record_lines::least(at, end);
+    let end = stop.min(text.len());
+    let start = at.min(end);
     let line = line_in(format, &text[start..end], t, state);
     Step {
         line,
@@ -193,182 +230,28 @@ pub fn known_line(format: u8, text: &[u8], t: &[u8; 256], at: usize, state: u16)
 pub fn leaves(kind: u8, address: u32, count: u8, first: u64, end: u64) -> bool
     ensures { result ≡ leaves_by kind address count first end }
 {
-    if kind != record_lines::DATA {
-        return true;
-    }
-    if count == 0 {
-        return true;
-    }
     let start = address as u64;
-    if start + (count as u64) <= first {
-        return true;
-    }
-    end <= start
+    kind != record_lines::DATA || count == 0 || start + count as u64 <= first || end <= start
 }
 
 // How far up from `end` nothing is given, with one line more; 0 where it gives a byte from `first` on and below `end`.
-fn lower(top: u64, kind: u8, address: u32, count: u8, first: u64, end: u64) -> u64
-    ensures { result ≡ lower_by top kind address count first end }
+fn lower(top: u64, line: Line, first: u64, end: u64) -> u64
+    ensures { result ≡ lower_by top line.kind line.address line.count first end }
 {
-    if !leaves(kind, address, count, first, end) {
+    if !leaves(line.kind, line.address, line.count, first, end) {
         return 0;
     }
-    if leaves(kind, address, count, end, top) {
+    if leaves(line.kind, line.address, line.count, end, top) {
         return top;
     }
-    address as u64
-}
-
-// How far up from `end` nothing is among the bytes that the first n lines give; 0 where one from `first` on and below `end` is.
-fn room_above(format: u8, text: &[u8], t: &[u8; 256], n: usize, first: u64, end: u64) -> u64
-    requires { Spells t.now × AllGood format text.now n × (first < end) }
-    ensures { RoomAbove (trail format text.now n).given first end result }
-{
-    let mut at = 0usize;
-    let mut state = 0u16;
-    let mut top = NOWHERE;
-    for _ in 0..n {
-        let s = known_line(format, text, t, at, state);
-        let line = s.line;
-        top = lower(top, line.kind, line.address, line.count, first, end);
-        at = s.next;
-        state = line.state;
-    }
-    top
-}
-
-// Whether bytes lie in the gap that is known to be free.
-fn gap_holds(first: u64, end: u64, free: Free) -> bool
-    ensures { result ≡ (leb free.edge first && leb end free.top) }
-{
-    if first < free.edge {
-        return false;
-    }
-    end <= free.top
-}
-
-// The same, where it is known what is free: the lines before are read again only where the bytes lie neither there nor above all others, and only if `look`.
-fn room_known(
-    format: u8,
-    text: &[u8],
-    t: &[u8; 256],
-    n: usize,
-    first: u64,
-    end: u64,
-    high: u64,
-    free: Free,
-    look: bool,
-) -> u64
-    requires spells { Spells t.now × AllGood format text.now n × (first < end) }
-    requires high_value { (high ≡ highest (trail format text.now n).given) × FreeIs (trail format text.now n).given free }
-    ensures { RoomIs look (trail format text.now n).given first end result }
-{
-    if high <= first {
-        return NOWHERE;
-    }
-    if end <= free.low {
-        return free.low;
-    }
-    if gap_holds(first, end, free) {
-        return free.top;
-    }
-    if look {
-        return room_above(format, text, t, n, first, end);
-    }
-    UNKNOWN
-}
-
-// Whether line n may stand where it does.
-fn may_stand(
-    format: u8,
-    text: &[u8],
-    t: &[u8; 256],
-    n: usize,
-    load: u32,
-    line: Line,
-    high: u64,
-    free: Free,
-    look: bool,
-) -> Admit
-    requires spells { Spells t.now × AllGood format text.now n }
-    requires high_value { (high ≡ highest (trail format text.now n).given) × FreeIs (trail format text.now n).given free }
-    ensures { AdmitIs look load (trail format text.now n).given line.kind line.address line.count high free.edge result }
-{
-    if line.kind == record_lines::PASS {
-        return Admit::High(high, free.top);
-    }
-    if line.kind != record_lines::DATA {
-        return Admit::No;
-    }
-    if line.count == 0 {
-        return Admit::High(high, free.top);
-    }
-    let first = line.address as u64;
-    let end = first + line.count as u64;
-    if first < load as u64 {
-        return Admit::No;
-    }
-    if end > 4_294_967_296 {
-        return Admit::No;
-    }
-    let top = room_known(format, text, t, n, first, end, high, free, look);
-    if top == 0 {
-        return Admit::No;
-    }
-    if top == UNKNOWN {
-        return Admit::High(prelude::greater(high, end), 0);
-    }
-    Admit::High(prelude::greater(high, end), top)
-}
-
-// What is free before the first line: everything.
-fn all_free() -> Free
-    ensures { result ≡ all_free }
-{
-    Free {
-        low: NOWHERE,
-        edge: NOWHERE,
-        top: NOWHERE,
-    }
-}
-
-// What is free behind a line that may stand.
-fn free_after(free: Free, top: u64, kind: u8, address: u32, count: u8) -> Free
-    ensures { result ≡ free_by free top kind address count }
-{
-    if kind != record_lines::DATA {
-        return Free {
-            low: free.low,
-            edge: free.edge,
-            top,
-        };
-    }
-    if count == 0 {
-        return Free {
-            low: free.low,
-            edge: free.edge,
-            top,
-        };
-    }
-    let first = address as u64;
-    Free {
-        low: prelude::lesser(free.low, first),
-        edge: first + count as u64,
-        top,
-    }
+    line.address as u64
 }
 
 // 1 for a line with bytes that does not begin at `edge`.
-fn begins(kind: u8, address: u32, count: u8, edge: u64) -> u64
-    ensures { (result ≡ begins_by kind address count edge) × (result ≤ 1) }
+fn begins(line: Line, edge: u64) -> u64
+    ensures { (result ≡ begins_by line.kind line.address line.count edge) × (result ≤ 1) }
 {
-    if kind != record_lines::DATA {
-        return 0;
-    }
-    if count == 0 {
-        return 0;
-    }
-    if address as u64 == edge {
+    if line.kind != record_lines::DATA || line.count == 0 || line.address as u64 == edge {
         return 0;
     }
     1
@@ -378,134 +261,47 @@ fn begins(kind: u8, address: u32, count: u8, edge: u64) -> u64
 fn looks(strict: bool, parts: u64) -> bool
     ensures { result ≡ looks_by strict parts }
 {
-    if strict {
-        return true;
-    }
-    parts < FEW
-}
-
-// What a walk tells.
-fn walked(
-    lines: usize,
-    sure: bool,
-    whole: bool,
-    line: usize,
-    high: u64,
-    ascend: bool,
-    parts: u64,
-) -> Walk
-    ensures { result ≡ walk_of lines sure whole line high ascend parts }
-{
-    Walk {
-        lines,
-        sure,
-        whole,
-        line,
-        high,
-        ascend,
-        parts,
-    }
-}
-
-// Walks over the lines up to the end record, or to the first at fault. If not `strict`, lines that jump are read again only while there are few parts.
-fn walk_lines(format: u8, text: &[u8], t: &[u8; 256], load: u32, strict: bool) -> Walk
-    requires { Spells t.now }
-    ensures { WalkIs format load text.now strict result }
-{
-    let mut at = 0usize;
-    let mut state = 0u16;
-    let mut high = 0u64;
-    let mut ascend = true;
-    let mut parts = 0u64;
-    let mut sure = true;
-    let mut free = all_free();
-    let mut n = 0usize;
-    while at < text.len() {
-        let s = take_line(format, text, t, at, state);
-        let line = s.line;
-        if line.kind == record_lines::END {
-            return walked(n, sure, text.len() <= s.next, n + 1, high, ascend, parts);
-        }
-        let Admit::High(h, top) = may_stand(
-            format,
-            text,
-            t,
-            n,
-            load,
-            line,
-            high,
-            free,
-            looks(strict, parts),
-        ) else {
-            return walked(n, sure, false, n, high, ascend, parts);
-        };
-        // all of its bytes lie at or above the highest end
-        ascend = prelude::both(ascend, leaves(line.kind, line.address, line.count, 0, high));
-        sure = prelude::both(sure, 0 < top);
-        parts += begins(line.kind, line.address, line.count, free.edge);
-        free = free_after(free, top, line.kind, line.address, line.count);
-        high = h;
-        at = s.next;
-        state = line.state;
-        n += 1;
-    }
-    walked(n, sure, false, n, high, ascend, parts)
+    strict || parts < FEW
 }
 
 // What a walk found.
-fn scan_of(w: Walk) -> Scan
+fn scan_of(w: Walk) -> Result<Whole, usize>
     ensures { result ≡ scan_of w }
 {
     if w.whole {
-        return Scan::Whole(w.lines, w.high, w.ascend, w.parts);
+        return Ok(Whole {
+            lines: w.lines,
+            high: w.high,
+            ascend: w.ascend,
+            parts: w.parts,
+        });
     }
-    Scan::Broken(w.line)
+    Err(w.line)
 }
 
 // Whether all scratch is 0.
 pub fn all_zero(scratch: &[u8]) -> bool
     ensures { result ≡ all_zero scratch.now }
 {
-    for i in 0..scratch.len() {
-        if scratch[i] != 0 {
-            return false;
-        }
-    }
-    true
+    scratch.iter().all(|b| *b == 0)
 }
 
-// Where a window ends. Counted in bytes, since a product could wrap.
+// Where a window of some bytes of scratch ends.
 fn window_end(low: u64, bytes: u64) -> u64
-    requires { low ≤ 8589934592 }
     ensures { result ≡ window_end low bytes }
 {
-    if bytes < 1_073_741_824 {
-        return prelude::lesser(low + 8 * bytes, NOWHERE);
-    }
-    NOWHERE
-}
-
-// How far an address lies above another; 0 where it does not.
-fn beyond(address: u64, low: u64) -> u64
-    ensures { result ≡ address - low }
-{
-    if address < low {
-        return 0;
-    }
-    address - low
+    low.saturating_add(bytes.saturating_mul(8)).min(NOWHERE)
 }
 
 // The lowest address from `top` on that is given, with a line's bytes.
 fn nearer(next: u64, first: u64, end: u64, top: u64) -> u64
     ensures { Nearer next first end top result }
 {
-    if end <= top {
+    let start = first.max(top);
+    if end <= start {
         return next;
     }
-    if end <= first {
-        return next;
-    }
-    prelude::lesser(next, prelude::greater(first, top))
+    next.min(start)
 }
 
 // Marks the addresses from `low` on that the first n lines give, up to the first line that gives one of them twice.
@@ -530,8 +326,8 @@ pub fn mark_window(
         let line = s.line;
         let first = line.address as u64;
         let end = first + line.count as u64;
-        let from = beyond(first, low);
-        let stop = beyond(end, low);
+        let from = first.saturating_sub(low);
+        let stop = end.saturating_sub(low);
         if bitvec::any_one(scratch, from, stop) {
             return Window { line: k, next };
         }
@@ -543,60 +339,187 @@ pub fn mark_window(
     Window { line: n, next }
 }
 
-// The first of n lines that gives a byte which a line before it gave, or n: window after window, the scratch 0 again behind each.
-fn first_twice(format: u8, text: &[u8], t: &[u8; 256], n: usize, scratch: &mut [u8]) -> usize
-    requires spells { Spells t.now × AllGood format text.now n }
-    requires scratch_nonzero { (0 < length scratch.old) × (scratch.old ≡ cleared scratch.old) }
-    ensures { FirstTwice format text.now n result × (scratch.new ≡ scratch.old) }
-{
-    let mut low = 0u64;
-    let mut limit = n;
-    while low < NOWHERE {
-        let w = mark_window(format, text, t, limit, low, scratch);
-        bitvec::clear(scratch);
-        limit = w.line;
-        low = w.next;
+impl File<'_> {
+    // How far up from `end` nothing is among the bytes that the first n lines give; 0 where one from `first` on and below `end` is.
+    fn room_above(&self, n: usize, first: u64, end: u64) -> u64
+        requires { AllGood self.now.format self.now.text.now n × (first < end) }
+        ensures { RoomAbove (trail self.now.format self.now.text.now n).given first end result }
+    {
+        let mut at = 0usize;
+        let mut state = 0u16;
+        let mut top = NOWHERE;
+        for _ in 0..n {
+            let s = known_line(self.format, self.text, self.t, at, state);
+            let line = s.line;
+            top = lower(top, line, first, end);
+            at = s.next;
+            state = line.state;
+        }
+        top
     }
-    limit
+
+    // The same, where it is known what is free: the lines before are read again only where the bytes lie neither there nor above all others, and only
+    // if `look`.
+    fn room_known(&self, n: usize, first: u64, end: u64, high: u64, free: Free, look: bool) -> u64
+        requires good { AllGood self.now.format self.now.text.now n × (first < end) }
+        requires high_value { let given = (trail self.now.format self.now.text.now n).given in (high ≡ highest given) × FreeIs given free }
+        ensures { RoomIs look (trail self.now.format self.now.text.now n).given first end result }
+    {
+        if high <= first {
+            return NOWHERE;
+        }
+        if end <= free.low {
+            return free.low;
+        }
+        if free.holds(first, end) {
+            return free.top;
+        }
+        if look {
+            return self.room_above(n, first, end);
+        }
+        UNKNOWN
+    }
+
+    // The highest end of the bytes given behind line n if it may stand where it does, and how far up from its own end nothing is given; 0 where it was not
+    // looked for whether its bytes are new.
+    fn may_stand(
+        &self,
+        n: usize,
+        load: u32,
+        line: Line,
+        high: u64,
+        free: Free,
+        look: bool,
+    ) -> Option<(u64, u64)>
+        requires good { AllGood self.now.format self.now.text.now n }
+        requires high_value { let given = (trail self.now.format self.now.text.now n).given in (high ≡ highest given) × FreeIs given free }
+        ensures { AdmitIs look load (trail self.now.format self.now.text.now n).given line.kind line.address line.count high free.edge result }
+    {
+        if line.kind == record_lines::PASS {
+            return Some((high, free.top));
+        }
+        if line.kind != record_lines::DATA {
+            return None;
+        }
+        if line.count == 0 {
+            return Some((high, free.top));
+        }
+        let first = line.address as u64;
+        let end = first + line.count as u64;
+        if first < load as u64 {
+            return None;
+        }
+        if end > 4_294_967_296 {
+            return None;
+        }
+        let top = self.room_known(n, first, end, high, free, look);
+        if top == 0 {
+            return None;
+        }
+        if top == UNKNOWN {
+            return Some((high.max(end), 0));
+        }
+        Some((high.max(end), top))
+    }
+
+    // Walks over the lines up to the end record, or to the first at fault. If not `strict`, lines that jump are read again only while there are few parts.
+    fn walk(&self, load: u32, strict: bool) -> Walk
+        ensures { WalkIs self.now.format load self.now.text.now strict result }
+    {
+        let mut at = 0usize;
+        let mut state = 0u16;
+        let mut free = NOTHING_GIVEN;
+        let mut walk = START;
+        // stays: a line tells where the next one begins, which no range or slice gives
+        while at < self.text.len() {
+            let s = take_line(self.format, self.text, self.t, at, state);
+            let line = s.line;
+            if line.kind == record_lines::END {
+                return Walk {
+                    whole: self.text.len() <= s.next,
+                    line: walk.lines + 1,
+                    ..walk
+                };
+            }
+            let look = looks(strict, walk.parts);
+            let Some((high, top)) = self.may_stand(walk.lines, load, line, walk.high, free, look)
+            else {
+                return walk;
+            };
+            // all of its bytes lie at or above the highest end
+            walk.ascend &= leaves(line.kind, line.address, line.count, 0, walk.high);
+            walk.sure &= 0 < top;
+            walk.parts += begins(line, free.edge);
+            walk.high = high;
+            walk.lines += 1;
+            walk.line += 1;
+            free = free.after(top, line);
+            at = s.next;
+            state = line.state;
+        }
+        walk
+    }
+
+    // The first of n lines that gives a byte which a line before it gave, or n: window after window, the scratch 0 again behind each.
+    fn first_twice(&self, n: usize, scratch: &mut [u8]) -> usize
+        requires good { AllGood self.now.format self.now.text.now n }
+        requires scratch_nonzero { (0 < length scratch.old) × (scratch.old ≡ cleared scratch.old) }
+        ensures { FirstTwice self.now.format self.now.text.now n result × (scratch.new ≡ scratch.old) }
+    {
+        let mut low = 0u64;
+        let mut limit = n;
+        // stays: a window begins where the one before it tells, which no range gives
+        while low < NOWHERE {
+            let w = mark_window(self.format, self.text, self.t, limit, low, scratch);
+            bitvec::clear(scratch);
+            limit = w.line;
+            low = w.next;
+        }
+        limit
+    }
 }
 
 // Whether scratch can be used.
 fn usable(scratch: &[u8]) -> bool
     ensures { result ≡ (ltb 0 (length scratch.now) && all_zero scratch.now) }
 {
-    if scratch.len() == 0 {
-        return false;
-    }
-    all_zero(scratch)
+    !scratch.is_empty() && all_zero(scratch)
 }
 
 // Reads the lines up to the end record, or to the first at fault. Scratch is used where many lines jump, if there is any and all of it is 0, and is 0 again
 // behind the call; without it each line that jumps has the lines before it read again.
-pub fn scan_lines(format: u8, text: &[u8], t: &[u8; 256], load: u32, scratch: &mut [u8]) -> Scan
+pub fn scan_lines(
+    format: u8,
+    text: &[u8],
+    t: &[u8; 256],
+    load: u32,
+    scratch: &mut [u8],
+) -> Result<Whole, usize>
     requires { Spells t.now }
     ensures { ScanIs format load text.now result × (scratch.new ≡ scratch.old) }
 {
-    let w = walk_lines(format, text, t, load, false);
+    let file = File { format, text, t };
+    let w = file.walk(load, false);
     if w.sure {
         return scan_of(w);
     }
     if !usable(scratch) {
-        return scan_of(walk_lines(format, text, t, load, true));
+        return scan_of(file.walk(load, true));
     }
-    let line = first_twice(format, text, t, w.lines, scratch);
+    let line = file.first_twice(w.lines, scratch);
     if line < w.lines {
-        return Scan::Broken(line);
+        return Err(line);
     }
     scan_of(w)
 }
 
 // The line at fault of a file that is read from a load address on. The scratch is as it was behind the call.
-pub fn line_at_fault(format: u8, text: &[u8], load: u32, scratch: &mut [u8]) -> Fault
+pub fn line_at_fault(format: u8, text: &[u8], load: u32, scratch: &mut [u8]) -> Option<u64>
     ensures { (result ≡ fault_of (read_text format load text.now)) × (scratch.new ≡ scratch.old) }
 {
     let t = record_lines::digit_table();
     match scan_lines(format, text, &t, load, scratch) {
-        Scan::Whole(_, _, _, _) => Fault::Good,
-        Scan::Broken(line) => Fault::At(line as u64),
+        Ok(_) => None,
+        Err(line) => Some(line as u64),
     }
 }

@@ -13,16 +13,7 @@ use record_lines::{Line, plain};
 fn is_s(c: u8) -> bool
     ensures { result ≡ is_s c }
 {
-    if c == b'S' {
-        return true;
-    }
-    c == b's'
-}
-
-fn byte(line: &[u8], t: &[u8; 256], i: u32) -> u32
-    ensures { (Spells t.now → result ≡ pair_at line.now i) × (result < 256) }
-{
-    record_lines::pair(line, t, i) as u32
+    c == b'S' || c == b's'
 }
 
 // Whether a line is an S, pairs of digits, as many as its count says, and sums to 255.
@@ -35,7 +26,7 @@ fn is_sound(line: &[u8], t: &[u8; 256]) -> bool
     if !is_s(line[0]) {
         return false;
     }
-    let count = record_lines::pair(line, t, 2) as u16;
+    let count = u16::from(record_lines::pair(line, t, 2));
     record_lines::sum_checked(line, t, 2, count + 1) == 255
 }
 
@@ -43,23 +34,7 @@ fn is_sound(line: &[u8], t: &[u8; 256]) -> bool
 fn does_agree(state: u16, width: u16) -> bool
     ensures { result ≡ agrees state width }
 {
-    if state == 0 {
-        return true;
-    }
-    state == width
-}
-
-// The address of an S1 record, 16 bits, and of an S3 record, 32 bits.
-fn address_of(line: &[u8], t: &[u8; 256], width: u16) -> u32
-    requires { (width ≡ 2) ⊎ (width ≡ 4) }
-    ensures { Spells t.now → result ≡ address_of width line.now }
-{
-    let upper = byte(line, t, 4) * 256 + byte(line, t, 6);
-    if width == 2 {
-        return upper;
-    }
-    let lower = byte(line, t, 8) * 256 + byte(line, t, 10);
-    upper * 65536 + lower
+    state == 0 || state == width
 }
 
 // One more than the last address of a width.
@@ -73,69 +48,98 @@ fn limit(width: u16) -> u64
     4_294_967_296
 }
 
-// S1 and S3.
-fn data_line(line: &[u8], t: &[u8; 256], width: u16, state: u16) -> Line
-    requires { (width ≡ 2) ⊎ (width ≡ 4) }
-    ensures { Spells t.now → length line.now ≡ 4 + 2 * count_of line.now
-        → Says line.now state (4 + 2 * width) result (data_line width state line.now) }
-{
-    if !does_agree(state, width) {
-        return plain(record_lines::BAD, state);
-    }
-    let count = record_lines::pair(line, t, 2) as u16;
-    if count <= width {
-        return plain(record_lines::BAD, state);
-    }
-    let left = count - width - 1;
-    let address = address_of(line, t, width);
-    if (address as u64) + (left as u64) > limit(width) {
-        return plain(record_lines::BAD, state);
-    }
-    Line {
-        kind: record_lines::DATA,
-        address,
-        first: 4 + 2 * width,
-        count: left as u8,
-        state: width,
-    }
+// A line that is read by a table of the digits, while a width is in force (0 for none).
+#[derive(Clone, Copy)]
+struct Reading<'a> {
+    line: &'a [u8],
+    t: &'a [u8; 256],
+    state: u16,
 }
 
-// S9 and S7.
-fn end_line(line: &[u8], t: &[u8; 256], width: u16, state: u16) -> Line
-    requires { width ≤ 4 }
-    ensures { Spells t.now → Says line.now state 0 result (end_line width state line.now) }
-{
-    if !does_agree(state, width) {
-        return plain(record_lines::BAD, state);
+impl Reading<'_> {
+    fn byte(&self, i: u32) -> u32
+        ensures { (Spells self.now.t.now → result ≡ pair_at self.now.line.now i) × (result < 256) }
+    {
+        u32::from(record_lines::pair(self.line, self.t, i))
     }
-    if record_lines::pair(line, t, 2) as u16 != width + 1 {
-        return plain(record_lines::BAD, state);
-    }
-    plain(record_lines::END, state)
-}
 
-// S0: "A header record S0 is read and skipped."
-fn header_line(line: &[u8], t: &[u8; 256], state: u16) -> Line
-    ensures { Spells t.now → Says line.now state 0 result (header_line state line.now) }
-{
-    if record_lines::pair(line, t, 2) < 3 {
-        return plain(record_lines::BAD, state);
+    // The address of an S1 record, 16 bits, and of an S3 record, 32 bits.
+    fn address_of(&self, width: u16) -> u32
+        requires { (width ≡ 2) ⊎ (width ≡ 4) }
+        ensures { Spells self.now.t.now → result ≡ address_of width self.now.line.now }
+    {
+        let upper = self.byte(4) * 256 + self.byte(6);
+        if width == 2 {
+            return upper;
+        }
+        let lower = self.byte(8) * 256 + self.byte(10);
+        upper * 65536 + lower
     }
-    plain(record_lines::PASS, state)
-}
 
-// A sound line by its type's digit.
-fn typed_line(line: &[u8], t: &[u8; 256], digit: u8, state: u16) -> Line
-    ensures { Spells t.now → length line.now ≡ 4 + 2 * count_of line.now
-        → Says line.now state (first_for digit) result (typed digit state line.now) }
-{
-    match digit {
-        b'0' => header_line(line, t, state),
-        b'1' => data_line(line, t, 2, state),
-        b'3' => data_line(line, t, 4, state),
-        b'7' => end_line(line, t, 4, state),
-        b'9' => end_line(line, t, 2, state),
-        _ => plain(record_lines::BAD, state),
+    // S1 and S3.
+    fn data_line(&self, width: u16) -> Line
+        requires { (width ≡ 2) ⊎ (width ≡ 4) }
+        ensures { Spells self.now.t.now → length self.now.line.now ≡ 4 + 2 * count_of self.now.line.now
+            → Says self.now.line.now self.now.state (4 + 2 * width) result (data_line width self.now.state self.now.line.now) }
+    {
+        if !does_agree(self.state, width) {
+            return plain(record_lines::BAD, self.state);
+        }
+        let count = u16::from(record_lines::pair(self.line, self.t, 2));
+        if count <= width {
+            return plain(record_lines::BAD, self.state);
+        }
+        let left = count - width - 1;
+        let address = self.address_of(width);
+        if u64::from(address) + u64::from(left) > limit(width) {
+            return plain(record_lines::BAD, self.state);
+        }
+        Line {
+            kind: record_lines::DATA,
+            address,
+            first: 4 + 2 * width,
+            count: left as u8,
+            state: width,
+        }
+    }
+
+    // S9 and S7.
+    fn end_line(&self, width: u16) -> Line
+        requires { width ≤ 4 }
+        ensures { Spells self.now.t.now → Says self.now.line.now self.now.state 0 result (end_line width self.now.state self.now.line.now) }
+    {
+        if !does_agree(self.state, width) {
+            return plain(record_lines::BAD, self.state);
+        }
+        if u16::from(record_lines::pair(self.line, self.t, 2)) != width + 1 {
+            return plain(record_lines::BAD, self.state);
+        }
+        plain(record_lines::END, self.state)
+    }
+
+    // S0: "A header record S0 is read and skipped."
+    fn header_line(&self) -> Line
+        ensures { Spells self.now.t.now → Says self.now.line.now self.now.state 0 result (header_line self.now.state self.now.line.now) }
+    {
+        if record_lines::pair(self.line, self.t, 2) < 3 {
+            return plain(record_lines::BAD, self.state);
+        }
+        plain(record_lines::PASS, self.state)
+    }
+
+    // A sound line by its type's digit.
+    fn typed_line(&self, digit: u8) -> Line
+        ensures { Spells self.now.t.now → length self.now.line.now ≡ 4 + 2 * count_of self.now.line.now
+            → Says self.now.line.now self.now.state (first_for digit) result (typed digit self.now.state self.now.line.now) }
+    {
+        match digit {
+            b'0' => self.header_line(),
+            b'1' => self.data_line(2),
+            b'3' => self.data_line(4),
+            b'7' => self.end_line(4),
+            b'9' => self.end_line(2),
+            _ => plain(record_lines::BAD, self.state),
+        }
     }
 }
 
@@ -145,7 +149,8 @@ pub fn known_line(line: &[u8], t: &[u8; 256], state: u16) -> Line
         → Says line.now state (first_of line.now) result (srec_item state line.now) }
 {
     let digit = record_lines::char_at(line, 1);
-    typed_line(line, t, digit, state)
+    let reading = Reading { line, t, state };
+    reading.typed_line(digit)
 }
 
 // What any line's characters say, without its end, by a table that spells the digits.

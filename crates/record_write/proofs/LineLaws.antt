@@ -1,5 +1,5 @@
 -- A line put together from its stores, in a format.
-use Rattle.std.proofs.Common.{◌≡◌, ℕ, ◌+◌, ◌-◌, ◌*◌, ◌/◌, ◌%◌, ◌<◌, ◌≤◌, eqb, List, [], ◌∷◌, ◌++◌, length, take, drop, set, sym, refl, ap, ◌∙◌, ap₂, append_assoc, add-one, arith, length-append, length-drop, length-set, length-take, take_all, eq-eqb, ne_eqb, eqb-true}
+use Rattle.std.proofs.Common.{fold, ◌≡◌, ℕ, ◌+◌, ◌-◌, ◌*◌, ◌/◌, ◌%◌, ◌<◌, ◌≤◌, eqb, List, [], ◌∷◌, ◌++◌, length, take, drop, set, sym, refl, ap, ◌∙◌, ap₂, append_assoc, add-one, arith, length-append, length-drop, length-set, length-take, take_all, eq-eqb, ne_eqb, eqb-true}
 use borrow.Author.Tests.{eqb-false}
 use lib.Seq.{sets}
 use Rattle.prelude.specs.Laws.Bools.{either}
@@ -37,8 +37,14 @@ hex-head old n hi lo kind e1 e2 e3 e4 =
     e4 ∙ ap (λ (l : List ℕ). sets l 7 (byte_text kind))
     (e3 ∙ ap (λ (l : List ℕ). sets l 5 (byte_text lo)) (e2 ∙ ap (λ (l : List ℕ). sets l 3 (byte_text hi)) e1))
 
-pub four-summed : (a b c d x y s : ℕ) → x ≡ (a + b) % 256 → y ≡ (c + d) % 256 → s ≡ (x + y) % 256 → s ≡ (a + b + c + d) % 256
-four-summed a b c d x y s e f g = g ∙ omega arith
+-- bytes added one by one, of each sum the low byte
+folded-from : (a : ℕ) (l : List ℕ) → a < 256 → fold (λ (s b : ℕ). (s + b) % 256) a l ≡ (a + sum_of l) % 256
+unfolding sum_of
+folded-from a [] h = omega arith
+folded-from a (b ∷ l) h = folded-from ((a + b) % 256) l (omega arith) ∙ omega arith
+
+pub folded : (l : List ℕ) → fold (λ (s b : ℕ). (s + b) % 256) 0 l ≡ sum_of l % 256
+folded l = folded-from 0 l (omega arith) ∙ ap (λ (k : ℕ). k % 256) (omega arith)
 
 pub hex-record : (old b : List ℕ) (kind field s1 s2 s ck r : ℕ) {mid new : List ℕ}
     → s1 ≡ (length b + field / 256 + field % 256 + kind) % 256 → s2 ≡ sum_of b % 256 → s ≡ (s1 + s2) % 256 → (ck + s) % 256 ≡ 0 → ck < 256

@@ -1,7 +1,7 @@
 -- Writing Intel HEX: the file of a format, for the format 0, and what a caller is told in document 01's figures.
-use Rattle.std.specs.Prelude.{◌≡◌, ℕ, Bool, ◌&&◌, List, length, ◌==◌, nat_le}
+use Rattle.std.specs.Prelude.{◌≡◌, ℕ, Bool, ◌&&◌, List, length, ◌==◌, nat_le, Result}
 use Rattle.prelude.specs.Told.{Told}
-use Rattle.record_write.specs.declared.Written.{Written}
+use Rattle.prelude.specs.declared.Refusal.{Refusal}
 use Rattle.record_write.specs.Checks.{all_placed}
 use Rattle.record_write.specs.Cut.{blocks_in}
 use Rattle.record_write.specs.Exactly.{answers}
@@ -22,6 +22,6 @@ told_hex image offsets sizes load old =
     (length (hex_of image offsets sizes load))
 
 -- What `write_ihex` promises: its answer, in the paper's figures too, and every character of the lent text.
-pub record WritesHex (image offsets sizes : List ℕ) (load : ℕ) (old : List ℕ) (r : Written) (new : List ℕ) : Type 0 where
+pub record WritesHex (image offsets sizes : List ℕ) (load : ℕ) (old : List ℕ) (r : Result ℕ Refusal) (new : List ℕ) : Type 0 where
   pub writes : Writes (input 0 image offsets sizes load) old r new
   pub told : told_written r ≡ told_hex image offsets sizes load old

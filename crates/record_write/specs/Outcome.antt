@@ -1,11 +1,10 @@
 -- A call that writes: its answer, and the lent text afterwards.
-use Rattle.std.specs.Prelude.{◌≡◌, ℕ, Bool, ◌&&◌, List, ◌++◌, length, drop, ◌==◌, nat_le}
+use Rattle.std.specs.Prelude.{◌≡◌, ℕ, Bool, ◌&&◌, List, ◌++◌, length, drop, ◌==◌, nat_le, Result, Ok, Err}
 use Rattle.prelude.specs.Pick.{pick}
 use Rattle.prelude.specs.Told.{Told, gives, told_refusal}
 use Rattle.prelude.specs.declared.Refusal.TheVariants.{Malformed, TooShort, BadPart}
+use Rattle.prelude.specs.declared.Refusal.{Refusal}
 use Rattle.record_lines.specs.Puts.{Puts}
-use Rattle.record_write.specs.declared.Written.{Written}
-use Rattle.record_write.specs.declared.Written.TheVariants.{Length, Refused}
 use Rattle.record_write.specs.Cut.{blocks_in}
 use Rattle.record_write.specs.Text.{known, text_of}
 use Rattle.record_write.specs.Checks.{all_parts, all_placed, fits_width}
@@ -40,11 +39,11 @@ abbrev pub PutsText : Input → List ℕ → ℕ → List ℕ → Type 0
 PutsText i old count new = Puts (text i) old count new
 
 -- 16, then 4, then 14, whose place is 3 for text.
-abbrev pub answer_of : Input → List ℕ → Written
+abbrev pub answer_of : Input → List ℕ → Result ℕ Refusal
 answer_of i old =
     pick (parts_ok i.image i.offsets i.sizes)
-    (pick (sound i) (pick (nat_le (length (text i)) (length old)) (Length (length (text i))) (Refused (TooShort 3))) (Refused (Malformed 0)))
-    (Refused BadPart)
+    (pick (sound i) (pick (nat_le (length (text i)) (length old)) (Ok (length (text i))) (Err (TooShort 3))) (Err (Malformed 0)))
+    (Err BadPart)
 
 -- Accepted, the text stands at the front and what is behind it stays; refused, all stays.
 abbrev pub text_after : Input → List ℕ → List ℕ
@@ -52,10 +51,10 @@ text_after i old =
     pick (parts_ok i.image i.offsets i.sizes && sound i && nat_le (length (text i)) (length old)) (text i ++ drop (length (text i)) old) old
 
 -- In document 01's figures.
-abbrev pub told_written : Written → Told ℕ
-told_written (Length n) = gives n
-told_written (Refused r) = told_refusal r
+abbrev pub told_written : Result ℕ Refusal → Told ℕ
+told_written (Ok n) = gives n
+told_written (Err r) = told_refusal r
 
-pub record Writes (i : Input) (old : List ℕ) (r : Written) (new : List ℕ) : Type 0 where
+pub record Writes (i : Input) (old : List ℕ) (r : Result ℕ Refusal) (new : List ℕ) : Type 0 where
   pub answer : r ≡ answer_of i old
   pub lent : new ≡ text_after i old

@@ -1,12 +1,11 @@
 -- Writing S-records, and what a caller is told in document 01's figures. Document 02, Ticket 12: "Write and read S1 with S9, and S3 with S7, from the
 -- same blocks, cut as in Ticket 1"; "Refusals: as in Ticket 1; 4 also for an address that doesn't fit the width or a bad line."
-use Rattle.std.specs.Prelude.{◌≡◌, ℕ, Bool, ◌&&◌, ◌||◌, List, ◌++◌, length, drop, ◌==◌, nat_le}
+use Rattle.std.specs.Prelude.{◌≡◌, ℕ, Bool, ◌&&◌, ◌||◌, List, ◌++◌, length, drop, ◌==◌, nat_le, Result, Ok, Err}
 use Rattle.prelude.specs.Pick.{pick}
 use Rattle.prelude.specs.Told.{Told}
 use Rattle.prelude.specs.declared.Refusal.TheVariants.{Malformed, TooShort, BadPart}
+use Rattle.prelude.specs.declared.Refusal.{Refusal}
 use Rattle.blocks.specs.declared.Block.{Block}
-use Rattle.record_write.specs.declared.Written.{Written}
-use Rattle.record_write.specs.declared.Written.TheVariants.{Length, Refused}
 use Rattle.record_write.specs.Checks.{all_short}
 use Rattle.record_write.specs.Cut.{blocks_in}
 use Rattle.record_write.specs.Exactly.{answers}
@@ -35,12 +34,12 @@ module _ (image offsets sizes : List ℕ) (load width : ℕ) (old : List ℕ) wh
   fits_in = nat_le (length (srec_of image offsets sizes load width)) (length old)
 
   -- "Refusals: 16 .., 4 .., then 14", whose place is 3 for text.
-  abbrev pub answer_srec : Written
+  abbrev pub answer_srec : Result ℕ Refusal
   answer_srec =
       pick (parts_ok image offsets sizes)
-      (pick (places_ok offsets sizes load width) (pick fits_in (Length (length (srec_of image offsets sizes load width))) (Refused (TooShort 3)))
-      (Refused (Malformed 0)))
-      (Refused BadPart)
+      (pick (places_ok offsets sizes load width) (pick fits_in (Ok (length (srec_of image offsets sizes load width))) (Err (TooShort 3)))
+      (Err (Malformed 0)))
+      (Err BadPart)
 
   abbrev pub told_srec : Told ℕ
   told_srec = answers (parts_ok image offsets sizes) (places_ok offsets sizes load width) fits_in (length (srec_of image offsets sizes load width))
@@ -52,7 +51,7 @@ module _ (image offsets sizes : List ℕ) (load width : ℕ) (old : List ℕ) wh
       (srec_of image offsets sizes load width ++ drop (length (srec_of image offsets sizes load width)) old) old
 
   -- What `write_srec` promises: its answer, in the paper's figures too, and every character of the lent text.
-  pub record WritesSrec (r : Written) (new : List ℕ) : Type 0 where
+  pub record WritesSrec (r : Result ℕ Refusal) (new : List ℕ) : Type 0 where
     pub answer : r ≡ answer_srec
     pub told : told_written r ≡ told_srec
     pub lent : new ≡ lent_srec

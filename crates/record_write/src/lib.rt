@@ -6,21 +6,14 @@ mod line;
 ghost use Rattle.std.specs.Prelude.{◌≡◌, ◌+◌, ◌-◌, ◌*◌, ◌/◌, ◌<◌, ◌≤◌, true, length, take, drop, nat_le};
 ghost use Rattle.record_write.specs.Cut.{piece_length, cut, blocks_in};
 ghost use Rattle.record_write.specs.Text.{known, lines_from, end_by, text_of};
-ghost use Rattle.record_write.specs.Checks.{all_parts, ends_free};
+ghost use Rattle.record_write.specs.Checks.{all_parts};
 ghost use Rattle.record_write.specs.Outcome.{input, sound, text, PutsText, Writes};
 ghost use Rattle.bitvec.specs.Part.{is_part};
 ghost use Rattle.record_write.specs.Going.{BlockWritten, PieceRoom, BlockRoom, Ready, limit_of, placed_in};
 ghost use Rattle.record_write.specs.Hex.{WritesHex};
 ghost use Rattle.record_write.specs.Srec.{format_for, WritesSrec};
 
-use prelude::{Refusal, Verdict};
-
-// What writing answers: the length of the text, or why there is none.
-#[derive(Clone, Copy)]
-pub enum Written {
-    Length(u64),
-    Refused(Refusal),
-}
+use prelude::Refusal;
 
 // Where the next line goes, and the state that is in force there.
 #[derive(Clone, Copy)]
@@ -35,7 +28,7 @@ fn piece_length(address: u64, left: usize) -> usize
     ensures upper_bound { (result ≤ 16) × (result ≤ left) × (0 < left → 0 < result) }
 {
     let line = (65_536 - address % 65_536) as usize;
-    record_lines::least(16, record_lines::least(left, line))
+    left.min(line).min(16)
 }
 
 // How many characters the lines of n bytes at an address have, while a state is in force: in Intel HEX 16 for a type 04 record.
@@ -50,7 +43,7 @@ fn piece_room(format: u8, state: u16, address: u32, n: usize) -> usize
     if format != 0 {
         return 15 + 2 * n;
     }
-    if address / 65_536 == state as u32 {
+    if address / 65_536 == u32::from(state) {
         return 12 + 2 * n;
     }
     28 + 2 * n
@@ -79,6 +72,7 @@ fn block_room(format: u8, count: usize, address: u64, place: Place) -> Place
     let mut state = place.state;
     let mut here = address;
     let mut k = 0;
+    // stays: a piece's length comes from where it begins, so that no `chunks` gives the pieces
     while k < count {
         let n = piece_length(here, count - k);
         at += piece_room(format, state, here as u32, n);
@@ -87,21 +81,6 @@ fn block_room(format: u8, count: usize, address: u64, place: Place) -> Place
         k += n;
     }
     Place { at, state }
-}
-
-// The length of the text of all blocks and the end record.
-fn text_room(format: u8, image: &[u8], offsets: &[u64], sizes: &[u64], load: u32) -> usize
-    requires { Ready image.now offsets.now sizes.now load }
-    ensures { result ≡ length (text (input format image.now offsets.now sizes.now load)) }
-{
-    let base = load as u64;
-    let mut place = Place { at: 0, state: 0 };
-    for i in 0..offsets.len() {
-        let count = (sizes[i] / 8) as usize;
-        place = block_room(format, count, base + offsets[i] / 8, place);
-    }
-    let at = place.at;
-    at + end_room(format)
 }
 
 // The bytes of the image from `start` to `end` as pieces from an address on.
@@ -123,6 +102,7 @@ fn write_block(
     let mut state = place.state;
     let mut here = address;
     let mut k = start;
+    // stays: a piece's length comes from where it begins, so that no `chunks` gives the pieces
     while k < end {
         let n = piece_length(here, end - k);
         let next = k + n;
@@ -140,44 +120,16 @@ fn is_part(image: &[u8], offset: u64, size: u64) -> bool
     ensures { result ≡ is_part (length image.now) offset size }
 {
     match bitvec::part_verdict(image, offset, size) {
-        Verdict::Accepted => true,
-        Verdict::Refused(_) => false,
+        Ok(()) => true,
+        Err(_) => false,
     }
-}
-
-// Whether every block is a part of the image.
-fn all_parts(image: &[u8], offsets: &[u64], sizes: &[u64]) -> bool
-    ensures { result ≡ all_parts (length image.now) (blocks_in offsets.now sizes.now) }
-{
-    let count = record_lines::least(offsets.len(), sizes.len());
-    for i in 0..count {
-        if !is_part(image, offsets[i], sizes[i]) {
-            return false;
-        }
-    }
-    true
 }
 
 // Whether a block that ends `size` bits behind `offset` ends before the next one starts. (A sum could wrap.)
 fn ends_before(offset: u64, size: u64, next: u64) -> bool
     ensures { result ≡ nat_le (offset + size) next }
 {
-    if next < offset {
-        return false;
-    }
-    size <= next - offset
-}
-
-// Whether block i ends before the one behind it starts, if there is one.
-fn ends_free(offsets: &[u64], sizes: &[u64], i: usize) -> bool
-    requires { (i < length offsets.now) × (length offsets.now ≡ length sizes.now) }
-    ensures { result ≡ ends_free offsets.now sizes.now i }
-{
-    let next = i + 1;
-    if offsets.len() <= next {
-        return true;
-    }
-    ends_before(offsets[i], sizes[i], offsets[next])
+    offset <= next && size <= next - offset
 }
 
 // Where the addresses of a format end: in format 2 they have 16 bits, in the others 32.
@@ -194,75 +146,107 @@ fn limit_of(format: u8) -> u64
 fn has_address(load: u32, offset: u64, size: u64, limit: u64) -> bool
     ensures { result ≡ nat_le (load + offset / 8 + size / 8) limit }
 {
-    load as u64 + offset / 8 + size / 8 <= limit
-}
-
-// Whether the blocks ascend, share no bit and have addresses of a format.
-fn all_placed(format: u8, offsets: &[u64], sizes: &[u64], load: u32) -> bool
-    requires { length offsets.now ≡ length sizes.now }
-    ensures { result ≡ placed_in format load (blocks_in offsets.now sizes.now) }
-{
-    let limit = limit_of(format);
-    for i in 0..offsets.len() {
-        if !ends_free(offsets, sizes, i) {
-            return false;
-        }
-        if !has_address(load, offsets[i], sizes[i], limit) {
-            return false;
-        }
-    }
-    true
+    u64::from(load) + offset / 8 + size / 8 <= limit
 }
 
 // Whether a format is known: 0 is Intel HEX, 2 and 4 are S-records of that width.
 fn is_known(format: u8) -> bool
     ensures { result ≡ known format }
 {
-    if format == 0 {
-        return true;
-    }
-    if format == 2 {
-        return true;
-    }
-    format == 4
+    matches!(format, 0 | 2 | 4)
 }
 
-// Whether nothing is malformed.
-fn is_sound(format: u8, image: &[u8], offsets: &[u64], sizes: &[u64], load: u32) -> bool
-    ensures { result ≡ sound (input format image.now offsets.now sizes.now load) }
-{
-    if !is_known(format) {
-        return false;
-    }
-    if offsets.len() != sizes.len() {
-        return false;
-    }
-    all_placed(format, offsets, sizes, load)
-}
-
-// The text of all blocks and the end record, where there is room for it.
-fn write_blocks(
+// What is to be written: the blocks of an image, in a format, from a load address on.
+#[derive(Clone, Copy)]
+struct Job<'a> {
     format: u8,
-    image: &[u8],
-    offsets: &[u64],
-    sizes: &[u64],
+    image: &'a [u8],
+    offsets: &'a [u64],
+    sizes: &'a [u64],
     load: u32,
-    text: &mut [u8],
-) -> usize
-    requires ready { Ready image.now offsets.now sizes.now load }
-    requires sizes_in_bounds { length (text_of format load image.now (blocks_in offsets.now sizes.now)) ≤ length text.old }
-    ensures { PutsText (input format image.now offsets.now sizes.now load) text.old result text.new }
-{
-    let base = load as u64;
-    let mut place = Place { at: 0, state: 0 };
-    for i in 0..offsets.len() {
-        let start = (offsets[i] / 8) as usize;
-        let end = start + (sizes[i] / 8) as usize;
-        place = write_block(format, image, start, end, base + start as u64, text, place);
+}
+
+impl Job<'_> {
+    // The length of the text of all blocks and the end record.
+    fn text_room(&self) -> usize
+        requires { Ready self.now.image.now self.now.offsets.now self.now.sizes.now self.now.load }
+        ensures { result ≡ length (text (input self.now.format self.now.image.now self.now.offsets.now self.now.sizes.now self.now.load)) }
+    {
+        let base = u64::from(self.load);
+        let mut place = Place { at: 0, state: 0 };
+        for (&offset, &size) in self.offsets.iter().zip(self.sizes.iter()) {
+            let count = (size / 8) as usize;
+            place = block_room(self.format, count, base + offset / 8, place);
+        }
+        let at = place.at;
+        at + end_room(self.format)
     }
-    let at = place.at;
-    let m = line::put_end(format, &mut text[at..]);
-    at + m
+
+    // Whether every block is a part of the image.
+    fn all_parts(&self) -> bool
+        ensures { result ≡ all_parts (length self.now.image.now) (blocks_in self.now.offsets.now self.now.sizes.now) }
+    {
+        self.offsets
+            .iter()
+            .zip(self.sizes.iter())
+            .all(|(&offset, &size)| is_part(self.image, offset, size))
+    }
+
+    // Whether the blocks ascend, share no bit and have addresses of a format.
+    fn all_placed(&self) -> bool
+        requires { length self.now.offsets.now ≡ length self.now.sizes.now }
+        ensures { result ≡ placed_in self.now.format self.now.load (blocks_in self.now.offsets.now self.now.sizes.now) }
+    {
+        let limit = limit_of(self.format);
+        let behind = self.offsets.iter().skip(1);
+        let free = self.offsets.iter().zip(self.sizes.iter()).zip(behind).all(|(
+            (&offset, &size),
+            &next,
+        )| ends_before(offset, size, next));
+        free && self.offsets.iter().zip(self.sizes.iter()).all(|(&offset, &size)| has_address(
+            self.load, offset, size, limit,
+        ))
+    }
+
+    // Whether nothing is malformed.
+    fn is_sound(&self) -> bool
+        ensures { result ≡ sound (input self.now.format self.now.image.now self.now.offsets.now self.now.sizes.now self.now.load) }
+    {
+        if !is_known(self.format) {
+            return false;
+        }
+        if self.offsets.len() != self.sizes.len() {
+            return false;
+        }
+        self.all_placed()
+    }
+
+    // The text of all blocks and the end record, where there is room for it.
+    fn write_blocks(&self, text: &mut [u8]) -> usize
+        requires ready { Ready self.now.image.now self.now.offsets.now self.now.sizes.now self.now.load }
+        requires sizes_in_bounds { length (text_of self.now.format self.now.load self.now.image.now
+            (blocks_in self.now.offsets.now self.now.sizes.now)) ≤ length text.old }
+        ensures { PutsText (input self.now.format self.now.image.now self.now.offsets.now self.now.sizes.now self.now.load) text.old result text.new }
+    {
+        let base = u64::from(self.load);
+        let mut place = Place { at: 0, state: 0 };
+        for (&offset, &size) in self.offsets.iter().zip(self.sizes.iter()) {
+            let start = (offset / 8) as usize;
+            let end = start + (size / 8) as usize;
+            place = write_block(
+                self.format,
+                self.image,
+                start,
+                end,
+                base + start as u64,
+                text,
+                place,
+            );
+        }
+        let at = place.at;
+        let m = line::put_end(self.format, &mut text[at..]);
+        at + m
+    }
 }
 
 // The blocks of an image as a file of records: the length of the text, which stands at the front of the lent text, or why there is none.
@@ -273,22 +257,29 @@ pub fn write(
     sizes: &[u64],
     load: u32,
     text: &mut [u8],
-) -> Written
+) -> Result<u64, Refusal>
     ensures { Writes (input format image.now offsets.now sizes.now load) text.old result text.new }
 {
-    if !all_parts(image, offsets, sizes) {
-        return Written::Refused(Refusal::BadPart);
+    let job = Job {
+        format,
+        image,
+        offsets,
+        sizes,
+        load,
+    };
+    if !job.all_parts() {
+        return Err(Refusal::BadPart);
     }
-    if !is_sound(format, image, offsets, sizes, load) {
-        return Written::Refused(Refusal::Malformed(0));
+    if !job.is_sound() {
+        return Err(Refusal::Malformed(0));
     }
     // the length comes first: a refused call writes nothing
-    let length = text_room(format, image, offsets, sizes, load);
+    let length = job.text_room();
     if text.len() < length {
-        return Written::Refused(Refusal::TooShort(3));
+        return Err(Refusal::TooShort(3));
     }
-    write_blocks(format, image, offsets, sizes, load, text);
-    Written::Length(length as u64)
+    job.write_blocks(text);
+    Ok(length as u64)
 }
 
 // Intel HEX (Ticket 1): the blocks of an image, lent as offsets and sizes in bits, as the text that the flash station takes, from a load address on: its
@@ -299,7 +290,7 @@ pub fn write_ihex(
     sizes: &[u64],
     load: u32,
     text: &mut [u8],
-) -> Written
+) -> Result<u64, Refusal>
     ensures { WritesHex image.now offsets.now sizes.now load text.old result text.new }
 {
     write(0, image, offsets, sizes, load, text)
@@ -323,7 +314,7 @@ pub fn write_srec(
     load: u32,
     width: u8,
     text: &mut [u8],
-) -> Written
+) -> Result<u64, Refusal>
     ensures { WritesSrec image.now offsets.now sizes.now load width text.old result text.new }
 {
     let format = format_for(width);

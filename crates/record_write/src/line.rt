@@ -11,6 +11,7 @@ ghost use Rattle.record_write.specs.Text.{text_by, end_by};
 ghost use Rattle.record_write.specs.Going.{tail_text};
 
 // "types 00, 01 and 04"
+// stays: numbers of the file's format
 const TYPE_DATA: u8 = 0;
 
 const TYPE_END: u8 = 1;
@@ -41,8 +42,8 @@ fn put_bytes(out: &mut [u8], at: usize, bytes: &[u8])
     ensures out_after { out.new ≡ sets out.old at (bytes_text bytes.now) }
     ensures out_len_unchanged { length out.new ≡ length out.old }
 {
-    for i in 0..bytes.len() {
-        put_byte(out, at + 2 * i, bytes[i]);
+    for (i, &b) in bytes.iter().enumerate() {
+        put_byte(out, at + 2 * i, b);
     }
 }
 
@@ -50,11 +51,7 @@ fn put_bytes(out: &mut [u8], at: usize, bytes: &[u8])
 fn sum(bytes: &[u8]) -> u8
     ensures { result ≡ sum_of bytes.now % 256 }
 {
-    let mut sum = 0u8;
-    for i in 0..bytes.len() {
-        sum = std::num::wrapping_add_u8(sum, bytes[i]);
-    }
-    sum
+    bytes.iter().fold(0u8, |sum, &b| sum.wrapping_add(b))
 }
 
 // How a line goes on behind its head: its bytes, the check byte and LF, from a place on.
@@ -74,9 +71,7 @@ fn put_tail(out: &mut [u8], at: usize, bytes: &[u8], check: u8) -> usize
 fn sum_four(a: u8, b: u8, c: u8, d: u8) -> u8
     ensures { result ≡ (a + b + c + d) % 256 }
 {
-    let ab = std::num::wrapping_add_u8(a, b);
-    let cd = std::num::wrapping_add_u8(c, d);
-    std::num::wrapping_add_u8(ab, cd)
+    a.wrapping_add(b).wrapping_add(c).wrapping_add(d)
 }
 
 // ---- Intel HEX
@@ -102,8 +97,8 @@ fn put_record(out: &mut [u8], kind: u8, field: u16, bytes: &[u8]) -> usize
     let n = bytes.len() as u8;
     let high = (field / 256) as u8;
     let low = (field % 256) as u8;
-    let sum = std::num::wrapping_add_u8(sum_four(n, high, low, kind), sum(bytes));
-    let check = std::num::wrapping_sub_u8(0, sum);
+    let sum = sum_four(n, high, low, kind).wrapping_add(sum(bytes));
+    let check = sum.wrapping_neg();
     put_hex_head(out, n, high, low, kind);
     put_tail(out, 9, bytes, check)
 }
@@ -178,10 +173,7 @@ fn put_long(out: &mut [u8], digit: u8, address: u32, bytes: &[u8]) -> usize
     let b = byte_of(address, 65_536);
     let c = byte_of(address, 256);
     let d = byte_of(address, 1);
-    let sum = std::num::wrapping_add_u8(
-        sum_four(count, a, b, c),
-        std::num::wrapping_add_u8(d, sum(bytes)),
-    );
+    let sum = sum_four(count, a, b, c).wrapping_add(d.wrapping_add(sum(bytes)));
     put_s_head(out, digit, count, a, b);
     put_byte(out, 8, c);
     put_byte(out, 10, d);

@@ -1,5 +1,5 @@
 -- Laws that proofs about Ends need.
-use Rattle.std.specs.Prelude.{ℕ, ◌+◌, ◌<◌, ◌≤◌, max, ◌≡◌, refl, Bool, true, false, not, eqb}
+use Rattle.std.specs.Prelude.{ℕ, ◌+◌, ◌<◌, ◌≤◌, max, ◌≡◌, refl, Bool, true, false, not, eqb, Result, Err, Ok}
 use Rattle.std.proofs.Common.{◌∙◌, arith, eq-eqb, ne_eqb, eqb-true}
 use Rattle.prelude.specs.Laws.Bools.{unlike}
 use Rattle.prelude.specs.declared.Refusal.{Refusal}
@@ -7,13 +7,10 @@ use Rattle.resolver.specs.Laws.Least.{first-at, first-from}
 use Rattle.resolver.specs.Theorems.Least.{K-counts, K-settles}
 use Rattle.resolver.specs.Passes.{unresolved, pass_k, last_of, after_k, settled_by}
 use Rattle.resolver.proofs.Run.{at_zero, K-below, K-not-below, by-ways, unresolved-before}
-use Rattle.resolver.specs.declared.Pass.{Pass}
-use Rattle.resolver.specs.declared.Pass.TheVariants.{State, Refused as Failed}
-use Rattle.resolver.specs.declared.Settled.TheVariants.{Refused}
 use Rattle.resolver.specs.declared.Resolution.{Resolution}
 use Rattle.resolver.specs.Ends.{RunsBefore, RunsLast, SettlesBelow, Unsettled, after, at_limit}
 
-module _ (pass : ℕ → Bool → Pass) where
+module _ (pass : ℕ → Bool → Result ℕ Refusal) where
   module _ (m : ℕ) where
     -- what pass K is looked for by
     abbrev pub settles : ℕ → Bool
@@ -28,8 +25,8 @@ module _ (pass : ℕ → Bool → Pass) where
         first-at settles 1 m n low (omega arith) (unsettled-below n (omega arith) before) (rw (ne_eqb n m (λ q. omega arith), e))
 
     -- a pass that is refused before the last ends the passes
-    pub refused-before : (n : ℕ) {why : Refusal} → (RunsBefore pass) m n → pass n false ≡ Failed why
-        → settled_by pass m ≡ record { settled = Refused why; passes = n }
+    pub refused-before : (n : ℕ) {why : Refusal} → (RunsBefore pass) m n → pass n false ≡ Err why
+        → settled_by pass m ≡ record { settled = Err why; passes = n }
     refused-before n r e =
         let low = r.counted in
         let high = r.below in
@@ -70,17 +67,17 @@ module _ (pass : ℕ → Bool → Pass) where
 
     -- The two ways in which the passes end: a pass before the last is refused, or the last one decides.
     pub data Ending (r : Resolution) : Type 0 where
-      early : (n : ℕ) (why : Refusal) → (RunsBefore pass) m n → pass n false ≡ Failed why → r ≡ record { settled = Refused why; passes = n } → Ending r
+      early : (n : ℕ) (why : Refusal) → (RunsBefore pass) m n → pass n false ≡ Err why → r ≡ record { settled = Err why; passes = n } → Ending r
       last : (n k : ℕ) → (RunsLast pass) m n → r ≡ record { settled = last_of k (pass n true); passes = n } → Ending r
 
     before-limit : (k : ℕ) → k ≤ pass_k pass m → k ≤ m → (Unsettled pass) k
     before-limit k h g p low high = unresolved-before pass m p low (omega arith) (omega arith)
 
-    ending-below : 0 < m → pass_k pass m < m → (x : Pass) → pass (pass_k pass m) false ≡ x → unresolved x ≡ false → Ending (after_k pass (pass_k pass m) x)
-    ending-below some less (Failed why) e u =
+    ending-below : 0 < m → pass_k pass m < m → (x : Result ℕ Refusal) → pass (pass_k pass m) false ≡ x → unresolved x ≡ false → Ending (after_k pass (pass_k pass m) x)
+    ending-below some less (Err why) e u =
         early (pass_k pass m) why (record
         { counted = K-counts pass m; below = less; unsettled = before-limit (pass_k pass m) (omega arith) (omega arith) }) e refl
-    ending-below some less (State s) e u =
+    ending-below some less (Ok s) e u =
         last (pass_k pass m + 1) (pass_k pass m)
         (after (pass_k pass m) (record {
           runs = record { counted = K-counts pass m; below = less; unsettled = before-limit (pass_k pass m) (omega arith) (omega arith) };

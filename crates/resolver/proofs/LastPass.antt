@@ -1,7 +1,6 @@
 -- Theorems about what LastPass defines.
-use Rattle.std.specs.Prelude.{ℕ, ◌-◌, ◌<◌, ◌≡◌, true, eqb, length}
+use Rattle.std.specs.Prelude.{ℕ, ◌-◌, ◌<◌, ◌≡◌, true, eqb, length, Ok}
 use Rattle.bankdef.specs.declared.Bankdefs.{Bankdefs}
-use Rattle.iter.specs.declared.Moved.TheVariants.{To}
 use Rattle.iter.specs.declared.Pos.{Pos}
 use Rattle.resolver.proofs.Answer.{accepted-layout}
 use Rattle.resolver.specs.Layout.{layout_of, Checked}
@@ -11,10 +10,9 @@ use Rattle.resolver.specs.Theorems.NodeOrder.{ran-to-end}
 use Rattle.resolver.specs.Passes.{program, row_of_pass}
 use Rattle.resolver.proofs.RefusedExactly.{checked-of}
 use Rattle.resolver.specs.declared.Choices.{Choices}
-use Rattle.resolver.specs.declared.Settled.TheVariants.{At}
 use Rattle.resolver.specs.LastPass.{last_row}
 
-module _ (banks : Bankdefs) (l : Lists) (choices : Choices) (k : ℕ) (accepted : (layout_of banks l choices).settled ≡ At k) where
+module _ (banks : Bankdefs) (l : Lists) (choices : Choices) (k : ℕ) (accepted : (layout_of banks l choices).settled ≡ Ok k) where
   pub accepted-checked : Checked banks l choices.fill
   accepted-checked = checked-of banks l choices k accepted
 
@@ -25,5 +23,5 @@ module _ (banks : Bankdefs) (l : Lists) (choices : Choices) (k : ℕ) (accepted 
       ran-to-end (program banks l) (row_of_pass l n) (row_of_pass l (n - 1)) (eqb n 1) true settles.0 settles.1
 
   -- Each node of an accepted layout sees a position in the last pass.
-  pub sees-in-last : (i : ℕ) → i < length l.kinds → (at : Pos) × (seen_at (program banks l) (last_row banks l choices) i ≡ To at)
+  pub sees-in-last : (i : ℕ) → i < length l.kinds → (at : Pos) × (seen_at (program banks l) (last_row banks l choices) i ≡ Ok at)
   sees-in-last i h = let g = last-goes-past i h in (g.now, g.seen)

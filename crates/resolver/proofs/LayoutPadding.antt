@@ -1,5 +1,5 @@
 -- Theorems about what LayoutPadding defines.
-use Rattle.std.specs.Prelude.{ℕ, ◌+◌, ◌*◌, ◌<◌, ◌≤◌, ◌≡◌, refl, get_or, length}
+use Rattle.std.specs.Prelude.{ℕ, ◌+◌, ◌*◌, ◌<◌, ◌≤◌, ◌≡◌, refl, get_or, length, Ok}
 use Rattle.std.proofs.Common.{ap, arith}
 use Rattle.prelude.specs.Limits.{max_nodes, max_position}
 use Rattle.bankdef.specs.declared.Bankdefs.{Bankdefs}
@@ -20,10 +20,9 @@ use Rattle.resolver.specs.Passes.{program, row_of_pass}
 use Rattle.resolver.proofs.RaisedLimit.{same-row-above}
 use Rattle.nodes.specs.Theorems.Sound.{accepted-lists}
 use Rattle.resolver.specs.declared.Choices.{Choices}
-use Rattle.resolver.specs.declared.Settled.TheVariants.{At}
 use Rattle.resolver.specs.LayoutPadding.{back_again}
 
-module _ (banks : Bankdefs) (l : Lists) (choices : Choices) (k : ℕ) (accepted : (layout_of banks l choices).settled ≡ At k) where
+module _ (banks : Bankdefs) (l : Lists) (choices : Choices) (k : ℕ) (accepted : (layout_of banks l choices).settled ≡ Ok k) where
   -- no more nodes than the limit
   pub accepted-few : length l.kinds ≤ max_nodes
   accepted-few = (accepted-lists banks.len l choices.fill (accepted-checked banks l choices k accepted).lists).few

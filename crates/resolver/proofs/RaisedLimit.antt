@@ -1,5 +1,5 @@
 -- Theorems about what RaisedLimit defines.
-use Rattle.std.specs.Prelude.{ℕ, ◌<◌, ◌≡◌, refl, [], ◌∷◌}
+use Rattle.std.specs.Prelude.{ℕ, ◌<◌, ◌≡◌, refl, [], ◌∷◌, Ok, Err}
 use Rattle.std.proofs.Common.{sym, ap, ◌∙◌}
 use Rattle.prelude.specs.declared.Refusal.TheVariants.{Unresolved}
 use Rattle.bankdef.specs.Check.{first_pair}
@@ -14,7 +14,6 @@ use Rattle.nodes.specs.Lists.{Lists, nodes_to, any_row_fault, lists_of}
 use Rattle.resolver.specs.Once.{walk_to, pass_to}
 use Rattle.resolver.specs.Passes.{pass_at, row_of_pass, first, settled_by}
 use Rattle.resolver.specs.declared.Choices.{Choices}
-use Rattle.resolver.specs.declared.Settled.TheVariants.{At, Refused}
 use Rattle.resolver.specs.declared.Resolution.{Resolution}
 use Rattle.resolver.specs.Laws.RaisedLimit.{below_again}
 use Rattle.resolver.specs.RaisedLimit.{edge, edge_refused}
@@ -24,7 +23,7 @@ module _
     (l : Lists)
     (choices : Choices)
     (k : ℕ)
-    (accepted : (layout_of banks l choices).settled ≡ At k)
+    (accepted : (layout_of banks l choices).settled ≡ Ok k)
     (below : k < choices.limit) where
   -- Accepted with K below the limit: every limit above K, over the same other choices, gives the same answer, K and the passes run.
   pub same-for-limits-above : (n : ℕ) → k < n → layout_of banks l (with_limit choices n) ≡ layout_of banks l choices
@@ -50,6 +49,6 @@ edge-moves = (refl, refl, refl, refl)
 
 pub edge-refused :
     (layout_of one_bank edge_refused (by_default 1) ≡ settled_at 1 1)
-    × (layout_of one_bank edge_refused (by_default 2) ≡ record { settled = Refused Unresolved; passes = 2 })
+    × (layout_of one_bank edge_refused (by_default 2) ≡ record { settled = Err Unresolved; passes = 2 })
 unfolding layout_of lists_of nodes_to any_row_fault settled_by first pass_to walk_to start_of seen_of moved_on advanced_of step_of first_where first_pair
 edge-refused = (refl, refl)

@@ -1,22 +1,20 @@
 -- Theorems about what Run defines.
-use Rattle.std.specs.Prelude.{ℕ, ◌+◌, ◌<◌, ◌≤◌, max, ◌≡◌, refl, Bool, true, false, eqb, ltb}
+use Rattle.std.specs.Prelude.{ℕ, ◌+◌, ◌<◌, ◌≤◌, max, ◌≡◌, refl, Bool, true, false, eqb, ltb, Result, Ok, Err}
 use Rattle.std.proofs.Common.{◌∙◌, arith}
+use Rattle.prelude.specs.declared.Refusal.{Refusal}
 use borrow.Author.Tests.{eq-eqb, ne_eqb, lt-ltb, le-ltb, eqb-true, eqb-false, ltb-true, ltb-false}
 use Rattle.resolver.specs.Theorems.Least.{before-K, K-settles, K-counts}
 use Rattle.resolver.specs.Passes.{unresolved, pass_k, last_of, after_k, settled_by}
-use Rattle.resolver.specs.declared.Pass.{Pass}
-use Rattle.resolver.specs.declared.Pass.TheVariants.{State, Refused as Failed}
-use Rattle.resolver.specs.declared.Settled.TheVariants.{At}
 use Rattle.resolver.specs.declared.Resolution.{Resolution}
 use Rattle.resolver.specs.Laws.Run.{after-at, last-at}
 use Rattle.resolver.specs.Run.{IsK, Settles, run_of}
 
-after-runs : (pass : ℕ → Bool → Pass) (k : ℕ) (x : Pass) → (k ≤ (after_k pass k x).passes) × ((after_k pass k x).passes ≤ k + 1)
-after-runs pass k (State s) = (omega arith, omega arith)
-after-runs pass k (Failed why) = (omega arith, omega arith)
+after-runs : (pass : ℕ → Bool → Result ℕ Refusal) (k : ℕ) (x : Result ℕ Refusal) → (k ≤ (after_k pass k x).passes) × ((after_k pass k x).passes ≤ k + 1)
+after-runs pass k (Ok s) = (omega arith, omega arith)
+after-runs pass k (Err why) = (omega arith, omega arith)
 
 -- the three ways in which the passes can go
-module _ (pass : ℕ → Bool → Pass) (m : ℕ) where
+module _ (pass : ℕ → Bool → Result ℕ Refusal) (m : ℕ) where
   -- M = 0
   pub at_zero : m ≡ 0 → settled_by pass m ≡ record { settled = last_of 0 (pass 1 true); passes = 1 }
   unfolding settled_by
@@ -58,7 +56,7 @@ module _ (pass : ℕ → Bool → Pass) (m : ℕ) where
   pub unresolved-before : (p : ℕ) → 1 ≤ p → p < pass_k pass m → p < m → unresolved (pass p false) ≡ true
   unresolved-before p low high less = rw (ne_eqb p m (λ q. omega arith)) at (before-K pass m p low high)
 
-  zero-told : m ≡ 0 → (k : ℕ) → last_of 0 (pass 1 true) ≡ At k → Counted k (record { settled = last_of 0 (pass 1 true); passes = 1 })
+  zero-told : m ≡ 0 → (k : ℕ) → last_of 0 (pass 1 true) ≡ Ok k → Counted k (record { settled = last_of 0 (pass 1 true); passes = 1 })
   zero-told z k e =
       let h = last-at 0 (pass 1 true) e in
       let n = h.0 in (
@@ -73,7 +71,7 @@ module _ (pass : ℕ → Bool → Pass) (m : ℕ) where
         h.1,
       )
 
-  below-told : 0 < m → pass_k pass m < m → (k : ℕ) → (after_k pass (pass_k pass m) (pass (pass_k pass m) false)).settled ≡ At k
+  below-told : 0 < m → pass_k pass m < m → (k : ℕ) → (after_k pass (pass_k pass m) (pass (pass_k pass m) false)).settled ≡ Ok k
       → Counted k (after_k pass (pass_k pass m) (pass (pass_k pass m) false))
   below-told some less k e =
       let other : eqb (pass_k pass m) m ≡ false = ne_eqb (pass_k pass m) m (λ q. omega arith) in
@@ -90,7 +88,7 @@ module _ (pass : ℕ → Bool → Pass) (m : ℕ) where
         rw h.1 h.2,
       )
 
-  limit-told : 0 < m → m ≤ pass_k pass m → (k : ℕ) → last_of m (pass m true) ≡ At k → Counted k (record { settled = last_of m (pass m true); passes = m })
+  limit-told : 0 < m → m ≤ pass_k pass m → (k : ℕ) → last_of m (pass m true) ≡ Ok k → Counted k (record { settled = last_of m (pass m true); passes = m })
   limit-told some least k e =
       let h = last-at m (pass m true) e in
       let n = h.0 in (
@@ -107,9 +105,9 @@ module _ (pass : ℕ → Bool → Pass) (m : ℕ) where
 
   -- An accepted layout: K is the least pass that is not unresolved, the passes run are "K when K = M and M > 0, else K + 1", and the last of
   -- them was not unresolved.
-  pub accepted-passes : (k : ℕ) → (settled_by pass m).settled ≡ At k → Counted k (settled_by pass m)
+  pub accepted-passes : (k : ℕ) → (settled_by pass m).settled ≡ Ok k → Counted k (settled_by pass m)
   accepted-passes =
-      by-ways (λ r. (k : ℕ) → r.settled ≡ At k → Counted k r) (λ z. zero-told z) (λ some. λ less. below-told some less)
+      by-ways (λ r. (k : ℕ) → r.settled ≡ Ok k → Counted k r) (λ z. zero-told z) (λ some. λ less. below-told some less)
       (λ some. λ least. limit-told some least)
 
   -- A pass is run, and no more are than "the larger of 1 and the limit", refused layouts included.

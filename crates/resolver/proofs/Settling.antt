@@ -1,4 +1,5 @@
 -- The passes, as the loop goes through them: no pass so far is settled, and what each way out comes to.
+use Rattle.std.specs.Prelude.{Result, Ok, Err}
 use Prim.Native.Nat.{ℕ, ◌+◌, ◌<◌, ◌≤◌, min}
 use mathlib.Core.Path.{◌≡◌, sym, ◌∙◌}
 use mathlib.Core.Bool.{Bool, true, false}
@@ -11,16 +12,10 @@ use Rattle.resolver.specs.Passes.{pass_k, last_of, settled_by}
 use Rattle.resolver.specs.Ends.{Unsettled}
 use Rattle.resolver.proofs.Ends.{settles, unsettled-below, K-at}
 use Rattle.resolver.specs.Laws.Least.{or-past, first-from}
-use Rattle.resolver.specs.declared.Pass.{Pass}
-use Rattle.resolver.specs.declared.Pass.TheVariants.{State, Refused as Failed}
-use Rattle.resolver.specs.declared.Settled.TheVariants.{Refused}
 use Rattle.resolver.specs.declared.Resolution.{Resolution}
 
-module _ (pass : ℕ → Bool → Pass) where
-  pub none_yet : Unsettled pass 1
-  none_yet p low high = absurd (let z : ⊥ = omega arith in z)
-
-  pub nor-this : (n : ℕ) {r : Pass} {s : ℕ} → Unsettled pass n → r ≡ pass n false → r ≡ State s → s ≡ 2 → Unsettled pass (n + 1)
+module _ (pass : ℕ → Bool → Result ℕ Refusal) where
+  pub nor-this : (n : ℕ) {r : Result ℕ Refusal} {s : ℕ} → Unsettled pass n → r ≡ pass n false → r ≡ Ok s → s ≡ 2 → Unsettled pass (n + 1)
   nor-this n before e f t p low high =
       ⊎_elim (λ (q : p ≡ n). rw (q, sym e ∙ f, t)) (λ (g : p < n). before p low g) (eq-or-lt_of_le (let h : p ≤ n = omega arith in h))
 
@@ -36,14 +31,14 @@ module _ (pass : ℕ → Bool → Pass) where
     unfolding settled_by
     no-limit z e = rw (eq-eqb m 0 z) e
 
-    module _ (n : ℕ) (low : 1 ≤ n) (high : n < m) (before : Unsettled pass n) {this : Pass} (e : this ≡ pass n false) where
-      pub refused-pass : {why : Refusal} → this ≡ Failed why → record { settled = Refused why; passes = n } ≡ settled_by pass m
+    module _ (n : ℕ) (low : 1 ≤ n) (high : n < m) (before : Unsettled pass n) {this : Result ℕ Refusal} (e : this ≡ pass n false) where
+      pub refused-pass : {why : Refusal} → this ≡ Err why → record { settled = Err why; passes = n } ≡ settled_by pass m
       unfolding settled_by
       refused-pass f =
           let k : pass_k pass m ≡ n = K-at pass m n low high before (rw (sym e ∙ f)) in
           rw (ne_eqb m 0 (λ q. omega arith), k, lt-ltb n m high, sym e ∙ f)
 
-      pub settled-pass : {s : ℕ} → this ≡ State s → (s ≡ 2 → ⊥) → {r : Resolution}
+      pub settled-pass : {s : ℕ} → this ≡ Ok s → (s ≡ 2 → ⊥) → {r : Resolution}
           → r ≡ record { settled = last_of n (pass (n + 1) true); passes = n + 1 } → r ≡ settled_by pass m
       unfolding settled_by
       settled-pass {s} f t h =

@@ -1,12 +1,10 @@
 -- Document 01's case "all resolved: limits 0, 1, 2 give K 0, 1, 1 and run 1, 1, 2", of a layout: one bank, no nodes and one row, so that every
 -- pass is resolved.
-use Rattle.std.specs.Prelude.{ℕ, false, [], ◌∷◌, pos, replicate}
-use Rattle.prelude.specs.declared.Opt.TheVariants.{None}
+use Rattle.std.specs.Prelude.{ℕ, false, [], ◌∷◌, pos, replicate, None, Ok}
 use Rattle.bankdef.specs.Check.{no_bank}
 use Rattle.bankdef.specs.declared.Bankdefs.{Bankdefs}
 use Rattle.resolver.specs.Layout.{by_default, layout_of}
 use Rattle.nodes.specs.Lists.{lists}
-use Rattle.resolver.specs.declared.Settled.TheVariants.{At}
 use Rattle.resolver.specs.declared.Resolution.{Resolution}
 
 abbrev pub one_bank : Bankdefs
@@ -22,4 +20,4 @@ answer_for m = layout_of one_bank (lists [] [] [] [] 1 []) (by_default m)
 
 -- K, and the passes run
 abbrev pub settled_at : ℕ → ℕ → Resolution
-settled_at k run = record { settled = At k; passes = run }
+settled_at k run = record { settled = Ok k; passes = run }

@@ -1,10 +1,10 @@
 -- How the passes end: which passes run, which of them is the last, and what the layout comes to by them (document 01, "Passes").
-use Rattle.std.specs.Prelude.{ℕ, ◌+◌, ◌<◌, ◌≤◌, max, ◌≡◌, Bool, true, false}
+use Rattle.std.specs.Prelude.{ℕ, ◌+◌, ◌<◌, ◌≤◌, max, ◌≡◌, Bool, true, false, Result}
+use Rattle.prelude.specs.declared.Refusal.{Refusal}
 use Rattle.resolver.specs.Passes.{unresolved}
 use Rattle.resolver.specs.Run.{Settles}
-use Rattle.resolver.specs.declared.Pass.{Pass}
 
-module _ (pass : ℕ → Bool → Pass) where
+module _ (pass : ℕ → Bool → Result ℕ Refusal) where
   -- every pass before n is unresolved
   abbrev pub Unsettled : ℕ → Type 0
   Unsettled n = (p : ℕ) → 1 ≤ p → p < n → unresolved (pass p false) ≡ true

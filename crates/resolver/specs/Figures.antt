@@ -1,11 +1,11 @@
 -- What a layout's answer tells in document 01's figures: which refusal, at which node of which pass, or K, and the passes run.
-use Rattle.std.specs.Prelude.{ℕ, ◌<◌, ◌≤◌, ◌≡◌, Bool, true, ◌↔◌, length}
+use Rattle.std.specs.Prelude.{ℕ, ◌<◌, ◌≤◌, ◌≡◌, Bool, true, ◌↔◌, length, Ok, Err}
 use Rattle.prelude.specs.Told.{gives, refuses, told_refusal}
 use Rattle.prelude.specs.declared.Place.{Place}
 use Rattle.prelude.specs.declared.Place.TheVariants.{One}
 use Rattle.prelude.specs.declared.Refusal.{Refusal}
 use Rattle.prelude.specs.declared.Refusal.TheVariants.{Malformed}
-use Rattle.prelude.specs.declared.Verdict.TheVariants.{Accepted, Refused as TurnedAway}
+use Rattle.prelude.specs.Verdict.{Accepted}
 use Rattle.bankdef.specs.Check.{check_of}
 use Rattle.bankdef.specs.declared.Bankdefs.{Bankdefs}
 use Rattle.resolver.specs.Ends.{Runs, RunsLast}
@@ -19,7 +19,6 @@ use Rattle.resolver.specs.PositionPast.{WouldPass}
 use Rattle.resolver.specs.Run.{IsK, Settles, run_of}
 use Rattle.resolver.specs.Told.{told_settled}
 use Rattle.resolver.specs.declared.Choices.{Choices}
-use Rattle.resolver.specs.declared.Pass.TheVariants.{State}
 use Rattle.resolver.specs.declared.Resolution.{Resolution}
 
 -- "5: a position would pass 4,294,967,295": at node i of a pass that runs, and the pass has gone past every node before it.
@@ -46,7 +45,7 @@ pub record LastUnresolved (banks : Bankdefs) (l : Lists) (choices : Choices) : T
   pub checked : Checked banks l choices.fill
   pub pass : ℕ
   pub runs : RunsLast (pass_at banks l) choices.limit pass
-  pub ends : pass_at banks l pass true ≡ State 2
+  pub ends : pass_at banks l pass true ≡ Ok 2
 
 -- "With limit M, passes 1, 2, .. run until one is not unresolved, pass K": k is K, n passes are run, and the last of them is not unresolved.
 pub record SettlesAt (banks : Bankdefs) (l : Lists) (choices : Choices) (k n : ℕ) : Type 0 where
@@ -59,14 +58,14 @@ pub record SettlesAt (banks : Bankdefs) (l : Lists) (choices : Choices) (k n : �
 -- its end." "Refusals 5 to 14 of a layout carry the passes run too, a refusing pass included."
 pub record Figures (banks : Bankdefs) (l : Lists) (choices : Choices) (r : Resolution) : Type 0 where
   -- the table's refusal comes first, then the lists', and no pass is run
-  pub table : (why : Refusal) → check_of banks ≡ TurnedAway why → (told_settled r.settled ≡ told_refusal why) × (r.passes ≡ 0)
-  pub lists : (why : Refusal) → check_of banks ≡ Accepted → lists_of banks.len l choices.fill ≡ TurnedAway why
+  pub table : (why : Refusal) → check_of banks ≡ Err why → (told_settled r.settled ≡ told_refusal why) × (r.passes ≡ 0)
+  pub lists : (why : Refusal) → check_of banks ≡ Accepted → lists_of banks.len l choices.fill ≡ Err why
       → (told_settled r.settled ≡ told_refusal why) × (r.passes ≡ 0)
   -- after those checks 4 is not given: of a table that has as many records as it counts banks
   pub four : banks.len ≤ length banks.defs
       → (place : ℕ)
       → (told_settled r.settled ≡ refuses 4 (One place)) ↔
-      ((check_of banks ≡ Accepted) × (lists_of banks.len l choices.fill ≡ TurnedAway (Malformed place)))
+      ((check_of banks ≡ Accepted) × (lists_of banks.len l choices.fill ≡ Err (Malformed place)))
   pub five : (i : ℕ) → (told_settled r.settled ≡ refuses 5 (One i)) ↔ PastFirst banks l choices i
   -- "6 is no longer given" (document 02, Ticket 3)
   pub six : (place : Place) → told_settled r.settled ≡ refuses 6 place → ⊥

@@ -1,13 +1,11 @@
 -- A layout's passes, with the refusals that come before any pass (document 01, "Numbers a caller gets back": the order).
-use Rattle.std.specs.Prelude.{ℕ, ◌≡◌, false}
-use Rattle.prelude.specs.declared.Verdict.{Verdict}
-use Rattle.prelude.specs.declared.Verdict.TheVariants.{Accepted, Refused as TurnedAway}
+use Rattle.std.specs.Prelude.{ℕ, ◌≡◌, false, Err}
+use Rattle.prelude.specs.Verdict.{Verdict, Accepted}
 use Rattle.bankdef.specs.Check.{check_of}
 use Rattle.bankdef.specs.declared.Bankdefs.{Bankdefs}
 use Rattle.nodes.specs.Lists.{Lists, lists_of}
 use Rattle.resolver.specs.Passes.{resolution_of}
 use Rattle.resolver.specs.declared.Choices.{Choices}
-use Rattle.resolver.specs.declared.Settled.TheVariants.{Refused}
 use Rattle.resolver.specs.declared.Resolution.{Resolution}
 
 -- "inherited fill, the default" (document 02, Ticket 8), and bank 0 may be used alone, with a limit
@@ -21,7 +19,7 @@ with_limit choices m = record { limit = m; fill = choices.fill; closed = choices
 -- refused before any pass was run
 abbrev pub unless : Verdict → Resolution → Resolution
 unless Accepted r = r
-unless (TurnedAway why) r = record { settled = Refused why; passes = 0 }
+unless (Err why) r = record { settled = Err why; passes = 0 }
 
 -- "Order: 1, 2 by ascending bank, 3, then 4 .. Then each pass in node order meets 5, 6 and 7, and 8 at its end."
 unfoldable pub layout_of : Bankdefs → Lists → Choices → Resolution

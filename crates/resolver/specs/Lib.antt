@@ -5,6 +5,7 @@ pub mod KnownInPass
 pub mod LabelStates
 pub mod LastPass
 pub mod Layout
+pub mod Laid
 pub mod LayoutPadding
 pub mod ListsExactly
 pub mod NodeOrder

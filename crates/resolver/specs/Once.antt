@@ -1,5 +1,5 @@
 -- One pass: a function of its row and of the row of the pass before (document 01, "The walk" and "Passes").
-use Rattle.std.specs.Prelude.{ℕ, zero, suc, ◌/◌, max, Bool, false, not, ◌&&◌, List, eqb, leb, get_or, length}
+use Rattle.std.specs.Prelude.{ℕ, zero, suc, ◌/◌, max, Bool, false, not, ◌&&◌, List, eqb, leb, get_or, length, Result, Ok, Err}
 use Rattle.prelude.specs.Pick.{pick}
 use Rattle.prelude.specs.declared.Refusal.{Refusal}
 use Rattle.prelude.specs.declared.Refusal.TheVariants.{LabelOffBoundary}
@@ -12,12 +12,8 @@ use Rattle.nodes.specs.declared.Node.{Node}
 use Rattle.iter.specs.declared.Pos.{Pos}
 use Rattle.iter.specs.declared.Walk.{Walk}
 use Rattle.iter.specs.declared.Stepped.{Stepped}
-use Rattle.iter.specs.declared.Moved.{Moved}
-use Rattle.iter.specs.declared.Moved.TheVariants.{To, Refused as Stopped}
 use Rattle.nodes.specs.Kinds.{is_label}
 use Rattle.nodes.specs.Lists.{Row, node_at}
-use Rattle.resolver.specs.declared.Pass.{Pass}
-use Rattle.resolver.specs.declared.Pass.TheVariants.{State, Refused}
 
 -- What stays the same from row to row: the banks, the nodes' kinds and operands, and the first row's numbers.
 pub record Program : Type 0 where
@@ -51,13 +47,13 @@ walk_to p row zero = start_of
 walk_to p row (suc i) = (step_at p row (walk_to p row i) i).walk
 
 -- "its address equals that of the pass before": the addresses of two positions in one bank, in whole units
-abbrev pub same_address : Bankdef → Pos → Moved → Bool
-same_address def now (To before) = eqb (now.position / def.unit) (before.position / def.unit)
-same_address def now (Stopped why) = false
+abbrev pub same_address : Bankdef → Pos → Result Pos Refusal → Bool
+same_address def now (Ok before) = eqb (now.position / def.unit) (before.position / def.unit)
+same_address def now (Err why) = false
 
 -- "a label is resolved when its position is known and on a boundary, stable when its address equals that of the pass before (never in pass 1),
 -- unresolved otherwise"
-abbrev pub label_state : Bankdef → Pos → Moved → Bool → ℕ
+abbrev pub label_state : Bankdef → Pos → Result Pos Refusal → Bool → ℕ
 label_state def now before is_first =
     pick (now.known && on_boundary def now.position) 0
     (pick (not is_first && same_address def now before) 1 2)
@@ -76,16 +72,16 @@ abbrev pub off_boundary : Bankdef → Node → Pos → Bool → Bool
 off_boundary def n now is_last = is_last && (is_label n.kind && not (on_boundary def now.position))
 
 -- "A pass is unresolved if any state is 2, stable if any is 1, otherwise resolved": the largest state, with what a node adds to it
-abbrev pub met : Bankdef → Node → Moved → Bool → Bool → ℕ → Moved → Pass
-met def n before is_first is_last merged (Stopped why) = Refused why
-met def n before is_first is_last merged (To now) =
+abbrev pub met : Bankdef → Node → Result Pos Refusal → Bool → Bool → ℕ → Result Pos Refusal → Result ℕ Refusal
+met def n before is_first is_last merged (Err why) = Err why
+met def n before is_first is_last merged (Ok now) =
     pick (off_boundary def n now is_last)
-    (Refused (LabelOffBoundary n.index))
-    (State (max merged (state_of n (label_state def now before is_first))))
+    (Err (LabelOffBoundary n.index))
+    (Ok (max merged (state_of n (label_state def now before is_first))))
 
-abbrev pub goes_on : Walk → Pass → Going
-goes_on walk (State merged) = on walk merged
-goes_on walk (Refused why) = off why
+abbrev pub goes_on : Walk → Result ℕ Refusal → Going
+goes_on walk (Ok merged) = on walk merged
+goes_on walk (Err why) = off why
 
 -- "Then each pass in node order meets 5, 6 and 7": node i met by a pass under way
 abbrev pub meets : Program → Row → Row → Bool → Bool → ℕ → Going → Going
@@ -99,10 +95,10 @@ unfoldable pub pass_to : Program → Row → Row → Bool → Bool → ℕ → G
 pass_to p row before is_first is_last zero = on start_of 0
 pass_to p row before is_first is_last (suc i) = meets p row before is_first is_last i (pass_to p row before is_first is_last i)
 
-abbrev pub closed : Going → Pass
-closed (on walk merged) = State merged
-closed (off why) = Refused why
+abbrev pub closed : Going → Result ℕ Refusal
+closed (on walk merged) = Ok merged
+closed (off why) = Err why
 
 -- the whole pass
-abbrev pub pass_of : Program → Row → Row → Bool → Bool → Pass
+abbrev pub pass_of : Program → Row → Row → Bool → Bool → Result ℕ Refusal
 pass_of p row before is_first is_last = closed (pass_to p row before is_first is_last (length p.kinds))

@@ -1,8 +1,6 @@
 -- Padding figures (document 02, Ticket 2): a bank's padding as a plain sum over the nodes that stand in it, and that the walk carries it.
-use Rattle.std.specs.Prelude.{ℕ, zero, suc, ◌+◌, ◌/◌, eqb, length}
+use Rattle.std.specs.Prelude.{ℕ, zero, suc, ◌+◌, ◌/◌, eqb, length, Option, None, Some}
 use Rattle.prelude.specs.Pick.{pick}
-use Rattle.prelude.specs.declared.Opt.{Opt}
-use Rattle.prelude.specs.declared.Opt.TheVariants.{None, Some}
 use Rattle.bankdef.specs.declared.Bankdef.{Bankdef}
 use Rattle.iter.specs.Distance.{address_in_bits, distance_to}
 use Rattle.iter.specs.Step.{outermost_symbol}
@@ -22,7 +20,7 @@ abbrev pub distance_in : Bankdef → ℕ → ℕ → ℕ
 distance_in def position a = distance_to (address_in_bits def position) a
 
 -- "label alignment", in a bank that has it
-abbrev pub label_loses : Bankdef → Opt → ℕ → ℕ
+abbrev pub label_loses : Bankdef → Option ℕ → ℕ → ℕ
 label_loses def None position = 0
 label_loses def (Some a) position = distance_in def position a
 

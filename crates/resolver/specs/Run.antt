@@ -1,20 +1,19 @@
 -- What an accepted layout tells: K, and the number of passes run; and that no more passes run than the limit lets.
-use Rattle.std.specs.Prelude.{ℕ, ◌+◌, ◌<◌, ◌≤◌, ◌≡◌, Bool, true, false, ◌&&◌, eqb, ltb}
+use Rattle.std.specs.Prelude.{ℕ, ◌+◌, ◌<◌, ◌≤◌, ◌≡◌, Bool, true, false, ◌&&◌, eqb, ltb, Result, Ok}
 use Rattle.prelude.specs.Pick.{pick}
+use Rattle.prelude.specs.declared.Refusal.{Refusal}
 use Rattle.resolver.specs.Passes.{unresolved}
-use Rattle.resolver.specs.declared.Pass.{Pass}
-use Rattle.resolver.specs.declared.Pass.TheVariants.{State}
 
 -- "K when K = M and M > 0, else K + 1"
 abbrev pub run_of : ℕ → ℕ → ℕ
 run_of m k = pick (eqb k m && ltb 0 m) k (k + 1)
 
 -- a pass that is resolved or stable: it ended, with a state that is not 2
-abbrev pub Settles : Pass → Type 0
-Settles x = (s : ℕ) × (x ≡ State s) × (eqb s 2 ≡ false)
+abbrev pub Settles : Result ℕ Refusal → Type 0
+Settles x = (s : ℕ) × (x ≡ Ok s) × (eqb s 2 ≡ false)
 
 -- Pass k is the least that is not unresolved; the limit m is 0, and then k is, or it is 1 or more and k one of the passes 1 to m.
-pub record IsK (pass : ℕ → Bool → Pass) (m k : ℕ) : Type 0 where
+pub record IsK (pass : ℕ → Bool → Result ℕ Refusal) (m k : ℕ) : Type 0 where
   pub none : m ≡ 0 → k ≡ 0
   pub counted : 0 < m → 1 ≤ k
   pub within : k ≤ m

@@ -17,13 +17,6 @@ pub struct Choices {
     pub closed: bool,
 }
 
-// What a pass comes to: the state that its nodes merge to (0 resolved, 1 stable, 2 unresolved), or a refusal.
-#[derive(Clone, Copy)]
-pub enum Pass {
-    State(u8),
-    Refused(Refusal),
-}
-
 // The state of a pass's walk, handed in and back by value: "bank positions, an array of 16 in the walk's state", and those of the walk of the pass before.
 // What a bank loses to alignment no pass asks for.
 #[derive(Clone, Copy)]
@@ -35,19 +28,12 @@ pub struct TwoWalks {
 // A pass, and what its walk comes to.
 #[derive(Clone, Copy)]
 pub struct Passed {
-    pub pass: Pass,
+    pub pass: Result<u8, Refusal>,
     pub walks: TwoWalks,
-}
-
-// What the passes come to: pass K, or a refusal; and how many passes were run, a refusing pass included.
-#[derive(Clone, Copy)]
-pub enum Settled {
-    At(u64),
-    Refused(Refusal),
 }
 
 #[derive(Clone, Copy)]
 pub struct Resolution {
-    pub settled: Settled,
+    pub settled: Result<u64, Refusal>,
     pub passes: u64,
 }

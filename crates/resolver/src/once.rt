@@ -2,18 +2,17 @@
 ghost use Rattle.std.specs.Prelude.{◌≡◌, true, ℕ, max, length, ◌/◌};
 ghost use Rattle.iter.specs.Pace.{seen_by};
 ghost use Rattle.bankdef.specs.Check.{no_bank};
-ghost use Rattle.nodes.specs.Lists.{row_with};
+ghost use Rattle.nodes.specs.Lists.{row_with, node_at};
 ghost use Rattle.resolver.specs.Once.{program_with, bank_record, label_state, state_of, off_boundary, pass_of, walk_to};
 ghost use Rattle.resolver.specs.Passes.{HasRow, row_against, pass_over};
 ghost use Rattle.resolver.specs.Stands.{both_start};
-ghost use Rattle.resolver.specs.declared.Pass.TheVariants.{State};
 ghost use Rattle.resolver.specs.Switches.{Switches};
 
-use crate::{Pass, Passed, TwoWalks};
+use crate::{Passed, TwoWalks};
 use bankdef::{Bankdef, Bankdefs};
 use iter::{MADE, Paced, Pos, bank_after, on_boundary, pace, why_refused};
 use nodes::{Node, node_at, reads_state};
-use prelude::{LABEL, MAX_BANKS, Opt, RESOLVED, Refusal, STABLE, UNRESOLVED};
+use prelude::{LABEL, MAX_BANKS, RESOLVED, Refusal, STABLE, UNRESOLVED};
 
 // The record of a bank that the table does not list: its unit is 0, and no address of it can be told.
 fn no_record() -> Bankdef
@@ -22,9 +21,9 @@ fn no_record() -> Bankdef
     Bankdef {
         unit: 0,
         start: 0,
-        size: Opt::None,
-        offset: Opt::None,
-        align: Opt::None,
+        size: None,
+        offset: None,
+        align: None,
         fill: false,
         fill_bit: 0,
     }
@@ -34,10 +33,7 @@ fn no_record() -> Bankdef
 pub fn bank_record(banks: Bankdefs, bank: u64) -> Bankdef
     ensures { result ≡ bank_record banks bank }
 {
-    if banks.len <= bank {
-        return no_record();
-    }
-    if MAX_BANKS <= bank {
+    if banks.len <= bank || MAX_BANKS <= bank {
         return no_record();
     }
     banks.defs[bank as usize]
@@ -47,11 +43,7 @@ pub fn bank_record(banks: Bankdefs, bank: u64) -> Bankdef
 fn whole_units(def: Bankdef, position: u32) -> u32
     ensures { result ≡ position / def.unit }
 {
-    let unit = def.unit as u32;
-    if unit == 0 {
-        return 0;
-    }
-    position / unit
+    position.checked_div(u32::from(def.unit)).unwrap_or(0)
 }
 
 // "a label is resolved when its position is known and on a boundary, stable when its address equals that of the pass before (never
@@ -62,14 +54,10 @@ fn label_state(def: Bankdef, now: Pos, before: Paced, is_first: bool) -> u8
     if now.known && on_boundary(def, now.position) {
         return RESOLVED;
     }
-    if is_first {
+    if is_first || before.fault != MADE {
         return UNRESOLVED;
     }
-    if before.fault != MADE {
-        return UNRESOLVED;
-    }
-    let was = before.seen;
-    if whole_units(def, now.position) == whole_units(def, was.position) {
+    if whole_units(def, now.position) == whole_units(def, before.seen.position) {
         STABLE
     } else {
         UNRESOLVED
@@ -80,31 +68,20 @@ fn label_state(def: Bankdef, now: Pos, before: Paced, is_first: bool) -> u8
 fn node_state(def: Bankdef, node: Node, now: Pos, before: Paced, is_first: bool) -> u8
     ensures { result ≡ state_of node (label_state def now (seen_by before 0) is_first) }
 {
-    let kind = node.kind;
-    if kind == LABEL {
-        return label_state(def, now, before, is_first);
+    if node.kind == LABEL {
+        label_state(def, now, before, is_first)
+    } else if reads_state(node.kind) {
+        node.state
+    } else {
+        RESOLVED
     }
-    if reads_state(kind) {
-        return node.state;
-    }
-    RESOLVED
 }
 
 // "7: a label in the last pass is off an address boundary"
 fn off_boundary(def: Bankdef, node: Node, now: Pos, is_last: bool) -> bool
     ensures { result ≡ off_boundary def node now is_last }
 {
-    if is_last && node.kind == LABEL {
-        return !on_boundary(def, now.position);
-    }
-    false
-}
-
-// "A pass is unresolved if any state is 2, stable if any is 1, otherwise resolved": the larger state.
-fn larger(merged: u8, state: u8) -> u8
-    ensures { result ≡ max merged state }
-{
-    if merged < state { state } else { merged }
+    is_last && node.kind == LABEL && !on_boundary(def, now.position)
 }
 
 // Both walks at their start: "Each bank's position starts at 0, known".
@@ -123,11 +100,43 @@ fn both_start() -> TwoWalks
 
 // A pass that is refused, and the walks that it has come to.
 fn refused_pass(why: Refusal, walks: TwoWalks) -> Passed
-    ensures { result.pass ≡ Pass.Refused why }
+    ensures { result.pass ≡ Err why }
 {
     Passed {
-        pass: Pass::Refused(why),
+        pass: Err(why),
         walks,
+    }
+}
+
+// What stays the same of the nodes from row to row: their kinds and operands, and the first row's numbers.
+#[derive(Clone, Copy)]
+struct Nodes<'a> {
+    kinds: &'a [u8],
+    operands: &'a [u32],
+    first: &'a [u32],
+}
+
+// "A row gives each node a number and a state"
+#[derive(Clone, Copy)]
+struct OneRow<'a> {
+    numbers: &'a [u32],
+    states: &'a [u8],
+}
+
+impl<'a> Nodes<'a> {
+    fn node(self, row: OneRow<'a>, i: usize) -> Node
+        ensures { result ≡ node_at self.entry.kinds.now self.entry.operands.now self.entry.first.now
+            (row_with row.entry.numbers.now row.entry.states.now)
+            i }
+    {
+        node_at(
+            self.kinds,
+            self.operands,
+            self.first,
+            row.numbers,
+            row.states,
+            i,
+        )
     }
 }
 
@@ -136,34 +145,33 @@ fn refused_pass(why: Refusal, walks: TwoWalks) -> Passed
 // state": the state comes by value, each step is stored into it, and it goes back as the rows leave it.
 fn walk_rows(
     banks: Bankdefs,
-    kinds: &[u8],
-    operands: &[u32],
-    first: &[u32],
-    numbers: &[u32],
-    states: &[u8],
-    before_numbers: &[u32],
-    before_states: &[u8],
+    nodes: Nodes<'_>,
+    row: OneRow<'_>,
+    row_before: OneRow<'_>,
     begun: TwoWalks,
     alone: bool,
     is_first: bool,
     is_last: bool,
 ) -> Passed
-    requires switches { Switches banks.len kinds.now operands.now }
+    requires switches { Switches banks.len nodes.kinds.now nodes.operands.now }
     requires begun_value { begun ≡ both_start }
-    requires before_states_value { alone ≡ true → row_with before_numbers.now before_states.now ≡ row_with numbers.now states.now }
-    ensures pass { result.pass ≡ pass_of (program_with banks kinds.now operands.now first.now)
-        (row_with numbers.now states.now)
-        (row_with before_numbers.now before_states.now)
+    requires before_states_value { alone ≡ true
+        → row_with row_before.numbers.now row_before.states.now ≡ row_with row.numbers.now row.states.now }
+    ensures pass { result.pass ≡ pass_of (program_with banks nodes.entry.kinds.now nodes.entry.operands.now nodes.entry.first.now)
+        (row_with row.entry.numbers.now row.entry.states.now)
+        (row_with row_before.entry.numbers.now row_before.entry.states.now)
         is_first is_last }
-    ensures walk { (merged : ℕ) → result.pass ≡ State merged
-        → (walk_to (program_with banks kinds.now operands.now first.now)
-        (row_with numbers.now states.now) (length kinds.now)).at ≡ result.walks.at }
+    ensures walk { (merged : ℕ) → result.pass ≡ Ok merged
+        → (walk_to (program_with banks nodes.entry.kinds.now nodes.entry.operands.now nodes.entry.first.now)
+        (row_with row.entry.numbers.now row.entry.states.now) (length nodes.entry.kinds.now)).at ≡ result.walks.at }
 {
     let mut walks = begun;
     let mut bank: u64 = 0;
+    // "A pass is unresolved if any state is 2, stable if any is 1, otherwise resolved": the largest state
     let mut merged: u8 = RESOLVED;
-    for i in 0..kinds.len() {
-        let node = node_at(kinds, operands, first, numbers, states, i);
+    // stays: node_at reads five lists at i, and a zip of five is no plainer
+    for i in 0..nodes.kinds.len() {
+        let node = nodes.node(row, i);
         bank = bank_after(bank, node);
         let def = banks.defs[bank as usize];
         let step = pace(def, walks.at[bank as usize], node);
@@ -174,20 +182,18 @@ fn walk_rows(
         if off_boundary(def, node, now, is_last) {
             return refused_pass(Refusal::LabelOffBoundary(node.index), walks);
         }
-        let after = step.after;
-        walks.at[bank as usize] = after;
+        walks.at[bank as usize] = step.after;
         if alone {
-            merged = larger(merged, node_state(def, node, now, step, is_first));
+            merged = merged.max(node_state(def, node, now, step, is_first));
             continue;
         }
-        let node_before = node_at(kinds, operands, first, before_numbers, before_states, i);
+        let node_before = nodes.node(row_before, i);
         let before = pace(def, walks.old[bank as usize], node_before);
-        merged = larger(merged, node_state(def, node, now, before, is_first));
-        let after_before = before.after;
-        walks.old[bank as usize] = after_before;
+        merged = merged.max(node_state(def, node, now, before, is_first));
+        walks.old[bank as usize] = before.after;
     }
     Passed {
-        pass: Pass::State(merged),
+        pass: Ok(merged),
         walks,
     }
 }
@@ -196,13 +202,7 @@ fn walk_rows(
 fn row_against(row: u64, alone: bool) -> u64
     ensures { result ≡ row_against row alone }
 {
-    if alone {
-        return row;
-    }
-    if row == 0 {
-        return 0;
-    }
-    row - 1
+    if alone { row } else { row.saturating_sub(1) }
 }
 
 // A pass over row `row`, held against the row that the pass before read: its own (`alone`), as pass 1 is, which has none before it; or the one ahead of it.
@@ -217,32 +217,40 @@ pub(crate) fn resolve_once(
     alone: bool,
     is_first: bool,
     is_last: bool,
-) -> Pass
+) -> Result<u8, Refusal>
     requires switches { Switches banks.len kinds.now operands.now }
     requires has_row { HasRow kinds.now operands.now numbers.now states.now row }
     ensures { result ≡ pass_over banks kinds.now operands.now numbers.now states.now
         row (row_against row alone) is_first is_last }
 {
     let count = kinds.len();
+    let nodes = Nodes {
+        kinds,
+        operands: &operands[0..count],
+        first: &numbers[0..count],
+    };
     let against = row_against(row, alone);
     let a = (row as usize) * count;
     let e = a + count;
     let b = (against as usize) * count;
     let f = b + count;
-    let passed = walk_rows(
+    let own = OneRow {
+        numbers: &numbers[a..e],
+        states: &states[a..e],
+    };
+    let other = OneRow {
+        numbers: &numbers[b..f],
+        states: &states[b..f],
+    };
+    walk_rows(
         banks,
-        kinds,
-        &operands[0..count],
-        &numbers[0..count],
-        &numbers[a..e],
-        &states[a..e],
-        &numbers[b..f],
-        &states[b..f],
+        nodes,
+        own,
+        other,
         both_start(),
         alone,
         is_first,
         is_last,
-    );
-    let pass = passed.pass;
-    pass
+    )
+    .pass
 }

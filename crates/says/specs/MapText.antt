@@ -6,9 +6,7 @@
 --     node I KIND BANK POSITION ADDRESS OUTPUT SIZE
 --     fault N
 --     accepted, or refused NUMBER PLACE
-use Rattle.std.specs.Prelude.{◌≡◌, List, [], ◌∷◌, ◌++◌, ℕ, suc, ◌/◌, ◌<◌, min, ℤ, pos, negsuc, ◌+ℤ◌, length, get_or}
-use Rattle.prelude.specs.declared.Opt.{Opt}
-use Rattle.prelude.specs.declared.Opt.TheVariants.{None, Some}
+use Rattle.std.specs.Prelude.{◌≡◌, List, [], ◌∷◌, ◌++◌, ℕ, suc, ◌/◌, ◌<◌, min, ℤ, pos, negsuc, ◌+ℤ◌, length, get_or, Option, None, Some}
 use Rattle.iter.specs.declared.Lost.{Lost}
 use Rattle.print_text.specs.Ascii.{ascii}
 use Rattle.c_answers.specs.declared.DkMap.{DkMap}
@@ -109,7 +107,7 @@ module _ (g : Given) where
 
   -- ---- What is said of the layout: the map; with a page size, "the ordinary build after a yes. Refusals: 19 (new), after 4 and before the first pass; place:
   -- rule and bank or node", so that no node is shown then.
-  abbrev pub LaidSays : Opt → Lent → Outcome → Type 0
+  abbrev pub LaidSays : Option ℕ → Lent → Outcome → Type 0
   LaidSays None old = MapSays g old
   LaidSays (Some page) old = Checks g (refusal g old) (Rules g page (refusal g old 19) (Mapped g old))
 
@@ -118,7 +116,7 @@ abbrev pub Lends : Lent → Type 0
 Lends old = (length old.banks ≡ 4096) × (length old.positions ≡ 4096) × (length old.outputs ≡ 4096) × (length old.sizes ≡ 4096)
 
 -- The program with its arguments: a broken file is a refusal's line alone; of a sound one the text is that of the outcome, whatever stood in the lists.
-pub data MapText (file : List ℕ) (fill : ℕ) (page : Opt) (t : List ℕ) : Type 0 where
+pub data MapText (file : List ℕ) (fill : ℕ) (page : Option ℕ) (t : List ℕ) : Type 0 where
   broken : {f : Form} {i : ℕ} → OfForm file f → Broken f file i → Line (ascii "refused") (4 ∷ i ∷ []) t → MapText file fill page t
   laid : {f : Form} {h : Held} {g : Given} → OfForm file f → Sound f file h → Layout f h fill g
       → ((old : Lent) → Lends old → (y : Outcome) × LaidSays g page old y × Prints g f y t) → MapText file fill page t

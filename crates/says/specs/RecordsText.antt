@@ -1,7 +1,6 @@
 -- What `prog_records`, the program behind tools/ihex and tools/srec, prints for the bytes of a layout file: what the library says of the file (Report), and of
 -- the image that it leaves what `dk_write_hex` or `dk_write_srec` says (Write).
-use Rattle.std.specs.Prelude.{◌≡◌, Bool, true, false, List, [], ◌∷◌, ◌++◌, map, ℕ, ◌+◌, ◌*◌, ◌/◌, ◌<◌, length, take}
-use Rattle.prelude.specs.declared.Opt.{Opt}
+use Rattle.std.specs.Prelude.{◌≡◌, Bool, true, false, List, [], ◌∷◌, ◌++◌, map, ℕ, ◌+◌, ◌*◌, ◌/◌, ◌<◌, length, take, Option}
 use Rattle.print_text.specs.Ascii.{ascii}
 use Rattle.says.specs.Words.{Not}
 use Rattle.says.specs.Blocks.{Block}
@@ -39,7 +38,7 @@ pub data Records (format load : ℕ) (whole : Bool) (room : List ℕ) (y : Outco
       → Records format load whole room y t
 
 -- The program with its arguments: room for the image and the spans as in `layout`, and for 131,072 characters, whatever it holds.
-abbrev pub RecordsSay : (format load : ℕ) → Bool → List ℕ → ℕ → Opt → List ℕ → Type 0
+abbrev pub RecordsSay : (format load : ℕ) → Bool → List ℕ → ℕ → Option ℕ → List ℕ → Type 0
 RecordsSay format load whole file fill page text =
     (old : Lent) → Lends old → (room : List ℕ) → length room ≡ 131072
     → (y : Outcome) × LayoutSays file fill page old y × Records format load whole room y text

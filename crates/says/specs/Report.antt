@@ -1,8 +1,6 @@
 -- What the program `layout` prints for the bytes of a file, from document 01, with a page size from document 02, Ticket 9: what `dk_form` or `dk_form_paged`
 -- says of the file (Form, FormPaged), in text.
-use Rattle.std.specs.Prelude.{◌≡◌, List, [], ◌∷◌, ◌++◌, ◌⊎◌, ℕ, ◌<◌, length, take}
-use Rattle.prelude.specs.declared.Opt.{Opt}
-use Rattle.prelude.specs.declared.Opt.TheVariants.{None, Some}
+use Rattle.std.specs.Prelude.{◌≡◌, List, [], ◌∷◌, ◌++◌, ◌⊎◌, ℕ, ◌<◌, length, take, Option, None, Some}
 use Rattle.print_text.specs.Ascii.{ascii}
 use Rattle.c_answers.specs.declared.DkLayout.{DkLayout}
 use Rattle.says.specs.Words.{Not}
@@ -51,10 +49,10 @@ abbrev pub Lends : Lent → Type 0
 Lends old = (length old.image ≡ 16384) × (length old.addresses ≡ 4096) × (length old.offsets ≡ 4096) × (length old.sizes ≡ 4096)
 
 -- What the library says of the file with the fill's choice, and with a page size where there is one.
-abbrev pub LayoutSays : List ℕ → ℕ → Opt → Lent → Outcome → Type 0
+abbrev pub LayoutSays : List ℕ → ℕ → Option ℕ → Lent → Outcome → Type 0
 LayoutSays file fill None = FormSays file fill
 LayoutSays file fill (Some page) = FormPagedSays file fill page
 
 -- The program with its arguments: whatever it lends holds, what it prints is the text of an outcome that the library says.
-abbrev pub ReportSays : List ℕ → ℕ → Opt → List ℕ → Type 0
+abbrev pub ReportSays : List ℕ → ℕ → Option ℕ → List ℕ → Type 0
 ReportSays file fill page text = (old : Lent) → Lends old → (y : Outcome) × LayoutSays file fill page old y × Reports y text

@@ -1,12 +1,10 @@
 -- Document 01's cases marked P, "proved together, as one table with one statement": each row is a case through the definitions that the
 -- contracts cite, and what document 01 says of it.
-use Rattle.std.specs.Prelude.{◌≡◌, true, false, List, [], ◌∷◌, map, ℕ, pos}
-use Rattle.prelude.specs.declared.Opt.TheVariants.{None, Some}
+use Rattle.std.specs.Prelude.{◌≡◌, true, false, List, [], ◌∷◌, map, ℕ, pos, Some, None, Ok}
 use Rattle.bankdef.specs.Cases.{two, alone}
 use Rattle.bankdef.specs.declared.Bankdef.{Bankdef}
 use Rattle.iter.specs.Distance.{tellable, no_skip, distance_of}
 use Rattle.iter.specs.Cases.{unit_ten}
-use Rattle.iter.specs.declared.Distance.TheVariants.{Skips}
 use Rattle.overlap_checker.specs.declared.Entry.{Entry}
 use Rattle.overlap_checker.specs.Interval.{interval}
 use Rattle.overlap_checker.specs.State.{empty_state, answer}
@@ -77,6 +75,6 @@ table =
 -- The cases marked P hold.
 pub record Cases : Type 0 where
   -- "alignment 0 at any address: 0"
-  pub any : (def : Bankdef) (position node : ℕ) → tellable def ≡ true → distance_of def position 0 node ≡ Skips no_skip
+  pub any : (def : Bankdef) (position node : ℕ) → tellable def ≡ true → distance_of def position 0 node ≡ Ok no_skip
   -- every row of the table
   pub rows : map (λ (c : Case). c.got) table ≡ map (λ (c : Case). c.said) table

@@ -1,7 +1,6 @@
 -- What a call of the converter that did not refuse has written, and what is then known of the file: from the contract alone.
-use Rattle.std.specs.Prelude.{Bool, false, List, ◌≡◌, ℕ, ◌≤◌, max, length, take}
+use Rattle.std.specs.Prelude.{Bool, false, List, ◌≡◌, ℕ, ◌≤◌, max, length, take, Ok}
 use Rattle.prelude.specs.Limits.{max_nodes, max_rows}
-use Rattle.form_fields.specs.declared.Form.TheVariants.{Sound}
 use Rattle.form_fields.specs.declared.Kind.{Kind}
 use Rattle.form_fields.specs.declared.Shape.{Shape}
 use Rattle.form_fields.specs.Contents.{Contents, written, Fits}
@@ -22,7 +21,7 @@ pub record Allowed (nodes rows first count size longest : ℕ) (drops : Bool) (r
 -- A file that was converted: it is sound, and so the writer's of its contents; what was written is the other form's file of what they become.
 pub record Turned (from to : Kind) (turn : Contents → Contents) (drops : Contents → Bool) (file old : List ℕ) (n : ℕ) (new : List ℕ) : Type 0 where
   pub shape : Shape
-  pub sound : form_in from file ≡ Sound shape
+  pub sound : form_in from file ≡ Ok shape
   pub fits : Fits from (contents_in from file)
   pub is : written from (contents_in from file) ≡ file
   pub short : length (written from (contents_in from file)) ≤ from.longest

@@ -1,6 +1,5 @@
 -- A layout with one bank, and what it becomes: a switch to bank 0, a label, an instruction of 8 bits and an `align`, in two rows.
-use Rattle.std.specs.Prelude.{true, [], ◌∷◌, pos, replicate}
-use Rattle.prelude.specs.declared.Opt.TheVariants.{None, Some}
+use Rattle.std.specs.Prelude.{true, [], ◌∷◌, pos, replicate, Some, None}
 use Rattle.bankdef.specs.Check.{no_bank}
 use Rattle.bankdef.specs.declared.Bankdef.{Bankdef}
 use Rattle.resolver.specs.Layout.{by_default}

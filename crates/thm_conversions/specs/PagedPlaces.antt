@@ -1,8 +1,6 @@
 -- Ticket 13 with Ticket 9, of files: what a refusal of the layout with one bank becomes where a page size is given, number by number, and what becomes of the
 -- answer with a page size or without.
-use Rattle.std.specs.Prelude.{ℕ, suc}
-use Rattle.prelude.specs.declared.Opt.{Opt}
-use Rattle.prelude.specs.declared.Opt.TheVariants.{None, Some}
+use Rattle.std.specs.Prelude.{ℕ, suc, Option, None, Some}
 use Rattle.prelude.specs.declared.Refusal.{Refusal}
 use Rattle.prelude.specs.declared.Refusal.TheVariants.{OffProfile}
 use Rattle.output.specs.Output.{Input}
@@ -25,6 +23,6 @@ pub data PagedRises (b : Input) : Refusal → Refusal → Type 0 where
   addr : (i : ℕ) → PagedRises b (OffProfile 6 i) (OffProfile 6 (suc i))
 
 -- what becomes of the answer, with a page size or without
-abbrev pub raised_in : Opt → Input → Output → Output
+abbrev pub raised_in : Option ℕ → Input → Output → Output
 raised_in None b o = raised_output b o
 raised_in (Some page) b o = profile_output b o

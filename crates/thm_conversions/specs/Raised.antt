@@ -1,12 +1,11 @@
 -- The profile's answer for a layout with one bank, and what it becomes with a bank 1 (document 02, Tickets 9 and 13). Definitions alone.
-use Rattle.std.specs.Prelude.{ℕ, suc, ◌||◌, ◌∷◌, eqb, get_or, replicate}
+use Rattle.std.specs.Prelude.{ℕ, suc, ◌||◌, ◌∷◌, eqb, get_or, replicate, Err}
 use Rattle.prelude.specs.Pick.{pick}
 use Rattle.prelude.specs.declared.Refusal.{Refusal}
 use Rattle.prelude.specs.declared.Refusal.TheVariants.{BankCount, BankNumber, BanksOverlap, Malformed}
 use Rattle.prelude.specs.declared.Refusal.TheVariants.{PositionPast, LabelOffBoundary, Unresolved, DefaultBank, PastBank}
 use Rattle.prelude.specs.declared.Refusal.TheVariants.{NoOutput, Overlap, StoreFull, TooShort, BadStore, BadPart, PartlyCovered, FillBitDropped, OffProfile}
-use Rattle.prelude.specs.declared.Verdict.{Verdict}
-use Rattle.prelude.specs.declared.Verdict.TheVariants.{Accepted, Refused}
+use Rattle.prelude.specs.Verdict.{Verdict, Accepted}
 use Rattle.output.specs.Output.{Input}
 use Rattle.build_profile.specs.Pages.{no_pages}
 use Rattle.build_profile.specs.declared.Paged.{Paged}
@@ -40,12 +39,12 @@ rule_raised FillBitDropped = FillBitDropped
 
 abbrev pub rule_verdict : Verdict → Verdict
 rule_verdict Accepted = Accepted
-rule_verdict (Refused why) = Refused (rule_raised why)
+rule_verdict (Err why) = Err (rule_raised why)
 
 -- the whole answer: 2 and 4 as the build's
 abbrev pub raised_verdict : Input → Verdict → Verdict
 raised_verdict b Accepted = Accepted
-raised_verdict b (Refused why) = Refused (raised b (rule_raised why))
+raised_verdict b (Err why) = Err (raised b (rule_raised why))
 
 -- bank 1 has bank 0's pages, bank 0 none
 abbrev pub raised_paged : Input → Paged → Paged

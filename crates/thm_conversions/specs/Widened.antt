@@ -1,8 +1,7 @@
 -- Ticket 13, "The default bank goes": a layout with one bank, and the same layout with a bank 1 in its place. Definitions alone.
-use Rattle.std.specs.Prelude.{ℕ, zero, suc, ◌*◌, ◌≤◌, ◌≡◌, Bool, true, false, not, ◌&&◌, ◌||◌, List, [], ◌∷◌, ◌++◌, eqb, get_or, length, take, drop, replicate}
+use Rattle.std.specs.Prelude.{ℕ, zero, suc, ◌*◌, ◌≤◌, ◌≡◌, Bool, true, false, not, ◌&&◌, ◌||◌, List, [], ◌∷◌, ◌++◌, eqb, get_or, length, take, drop, replicate, None, Err, Ok, Result}
 use Rattle.prelude.specs.Limits.{max_banks, max_nodes}
 use Rattle.prelude.specs.Pick.{pick}
-use Rattle.prelude.specs.declared.Opt.TheVariants.{None}
 use Rattle.prelude.specs.declared.Refusal.{Refusal}
 use Rattle.prelude.specs.declared.Refusal.TheVariants.{BankCount, BankNumber, BanksOverlap, Malformed}
 use Rattle.prelude.specs.declared.Refusal.TheVariants.{PositionPast, LabelOffBoundary, Unresolved, DefaultBank, PastBank}
@@ -16,9 +15,8 @@ use Rattle.nodes.specs.Lists.{Lists, row_count_sound, known_fill}
 use Rattle.resolver.specs.Once.{bank_record}
 use Rattle.resolver.specs.declared.Choices.{Choices}
 use Rattle.output.specs.Output.{Input}
-use Rattle.output.specs.declared.Build.{Build}
-use Rattle.output.specs.declared.Build.TheVariants.{Done, Refused}
 use Rattle.output.specs.declared.Output.{Output}
+use Rattle.output.specs.declared.Built.{Built}
 
 -- ---- the layout with a bank 1
 
@@ -119,9 +117,9 @@ raised b why =
     pick (bank_fault (only_bank b)) (BankNumber (pick (misplaced (only_bank b)) 0 1))
     (pick (counts_sound b) (shifted why) why)
 
-abbrev pub raised_build : Input → Build → Build
-raised_build b (Done k bits spans) = Done k bits spans
-raised_build b (Refused why) = Refused (raised b why)
+abbrev pub raised_build : Input → Result Built Refusal → Result Built Refusal
+raised_build b (Ok ended) = Ok ended
+raised_build b (Err why) = Err (raised b why)
 
 -- "The converted file gives the same image and blocks": the same K, length, spans and passes run. Bank 1 has bank 0's padding, every other bank none.
 abbrev pub raised_output : Input → Output → Output

@@ -1,5 +1,5 @@
 -- The text of blocks, written in a format into a buffer in which every file of theirs fits.
-use Rattle.std.specs.Prelude.{Bool, ◌&&◌, ◌||◌, List, ◌≡◌, ℕ, ◌+◌, ◌*◌, ◌/◌, ◌≤◌, eqb, length}
+use Rattle.std.specs.Prelude.{Bool, ◌&&◌, ◌||◌, List, ◌≡◌, ℕ, ◌+◌, ◌*◌, ◌/◌, ◌≤◌, eqb, length, Result, Ok, Err}
 use Rattle.prelude.specs.Pick.{pick}
 use Rattle.prelude.specs.declared.Refusal.{Refusal}
 use Rattle.prelude.specs.declared.Refusal.TheVariants.{Malformed, BadPart}
@@ -8,8 +8,6 @@ use Rattle.prog_args.specs.Text.{Stands}
 use Rattle.record_write.specs.Srec.{width_ok}
 use Rattle.record_write.specs.Checks.{all_parts, all_placed}
 use Rattle.record_write.specs.Text.{text_of}
-use Rattle.record_write.specs.declared.Written.{Written}
-use Rattle.record_write.specs.declared.Written.TheVariants.{Length, Refused}
 
 -- A format is 0, Intel HEX, or the width of S-records' addresses, which none of them is past.
 abbrev pub format_ok : ℕ → ℕ → List Block → Bool
@@ -25,9 +23,9 @@ records_or say format load image blocks =
     (say BadPart)
 
 -- What a call that writes the records of blocks leaves: all of them at the front, or why not, and nothing changed.
-abbrev pub PutsOr : (Refusal → List ℕ) → ℕ → ℕ → List ℕ → List Block → List ℕ → Written → List ℕ → Type 0
-PutsOr say format load image blocks old (Length n) new = Stands (records_or say format load image blocks) old n new
-PutsOr say format load image blocks old (Refused why) new = (records_or say format load image blocks ≡ say why) × (new ≡ old)
+abbrev pub PutsOr : (Refusal → List ℕ) → ℕ → ℕ → List ℕ → List Block → List ℕ → Result ℕ Refusal → List ℕ → Type 0
+PutsOr say format load image blocks old (Ok n) new = Stands (records_or say format load image blocks) old n new
+PutsOr say format load image blocks old (Err why) new = (records_or say format load image blocks ≡ say why) × (new ≡ old)
 
 -- Room for every file of so many bytes in so many blocks, by `Room.records-length`.
 abbrev pub HasRoom : ℕ → ℕ → ℕ → Type 0

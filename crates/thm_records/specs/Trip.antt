@@ -1,8 +1,8 @@
 -- "Reading back our own file gives the same bytes at the same addresses, touching blocks joined."
-use Rattle.std.specs.Prelude.{◌≡◌, List, ℕ, ◌≤◌, ◌<◌, length, get_or}
+use Rattle.std.specs.Prelude.{◌≡◌, List, ℕ, ◌≤◌, ◌<◌, length, get_or, Result}
 use Rattle.prelude.specs.Told.{gives}
+use Rattle.prelude.specs.declared.Refusal.{Refusal}
 use Rattle.blocks.specs.declared.Block.{Block}
-use Rattle.blocks.specs.declared.Blocks.{Blocks}
 use Rattle.blocks.specs.Outcome.{origins, sizes, over, ToldBy}
 use Rattle.record_read.specs.Outcome.{Lent}
 use Rattle.thm_records.specs.Joined.{joined, InSome}
@@ -16,7 +16,7 @@ pub record Room (blocks : List Block) (old : Lent) : Type 0 where
 
 -- What comes back of an image's blocks, in everything that was lent: the number of blocks, with touching ones joined; each byte of a block where it was in the
 -- image; every other byte as it was; and the blocks, with those past them as they were.
-pub record Back (image : List ℕ) (blocks : List Block) (old : Lent) (r : Blocks) (new : Lent) : Type 0 where
+pub record Back (image : List ℕ) (blocks : List Block) (old : Lent) (r : Result ℕ Refusal) (new : Lent) : Type 0 where
   pub told : ToldBy r ≡ gives (length (joined blocks))
   pub same : (j : ℕ) → InSome blocks j → get_or new.bytes j 0 ≡ get_or image j 0
   pub kept : (j : ℕ) → j < length old.bytes → (InSome blocks j → ⊥) → get_or new.bytes j 0 ≡ get_or old.bytes j 0

@@ -1,32 +1,16 @@
 -- Runs written one behind the other: none, one, some behind others, and what a loop holds that has written a part of them.
 use mathlib.Core.Path.{◌≡◌, refl, sym, ap, subst, ◌∙◌}
 use mathlib.Core.List.{List, [], ◌∷◌, ◌++◌, map, map-append, append_assoc}
-use Prim.Native.Nat.{ℕ, suc, ◌+◌, ◌-◌}
+use Prim.Native.Nat.{ℕ, suc, ◌+◌}
 use native.Mathlib.Nat.{add-zero}
 use native.Mathlib.Omega.{arith}
-use borrow.Author.Tests.{eq-eqb, ne_eqb}
 use lib.ListN.{length, set, length-append, length-map}
-use lib.Seq.{sets, length-sets}
-use Rattle.verify.specs.Runs.{Run, closed, closed_at}
-use Rattle.verify.specs.Put.{firsts, counts, kinds, Put}
+use lib.Seq.{sets}
+use Rattle.verify.specs.Runs.{Run}
+use Rattle.verify.specs.Put.{Put}
 
 pub put-nothing : (n : ℕ) (fs cs ks : List ℕ) → Put [] n fs cs ks n fs cs ks
 put-nothing n fs cs ks = record { counted = sym (add-zero n); first = refl; second = refl; third = refl }
-
-module _ (kind first end n : ℕ) (fs cs ks : List ℕ) where
-  pub push-none : kind ≡ 0 → Put (closed kind first end) n fs cs ks (n + 0) fs cs ks
-  push-none e = rw (eq-eqb kind 0 e) (record { counted = refl; first = refl; second = refl; third = refl })
-
-  pub push-some : (kind ≡ 0 → ⊥) → {fs' cs' ks' : List ℕ} → fs' ≡ set fs n first → cs' ≡ set cs n (end - first) → ks' ≡ set ks n kind
-      → Put (closed kind first end) n fs cs ks (n + 1) fs' cs' ks'
-  push-some e p q r = rw (ne_eqb kind 0 e) (record { counted = refl; first = p; second = q; third = r })
-
-  pub close-none : (next : ℕ) → next ≡ kind → Put (closed_at kind next first end) n fs cs ks (n + 0) fs cs ks
-  close-none next e = rw (eq-eqb next kind e) (record { counted = refl; first = refl; second = refl; third = refl })
-
-  pub close-some : (next : ℕ) → (next ≡ kind → ⊥) → {m : ℕ} {fs' cs' ks' : List ℕ} → Put (closed kind first end) n fs cs ks m fs' cs' ks'
-      → Put (closed_at kind next first end) n fs cs ks m fs' cs' ks'
-  close-some next e p = rw (ne_eqb next kind e) p
 
 -- Stored in two goes.
 sets-append : (l xs ys : List ℕ) (n : ℕ) → sets l n (xs ++ ys) ≡ sets (sets l n xs) (n + length xs) ys
@@ -48,14 +32,6 @@ put_then xs ys {n} {fs₀ = fs₀} {cs₀ = cs₀} {ks₀ = ks₀} p q =
       second = stored (λ r. r.count) xs ys cs₀ n p.counted p.second q.second;
       third = stored (λ r. r.kind) xs ys ks₀ n p.counted p.third q.third;
     }
-
-pub put-long : {xs : List Run} {n m : ℕ} {fs cs ks fs' cs' ks' : List ℕ} → Put xs n fs cs ks m fs' cs' ks'
-    → (length fs' ≡ length fs) × (length cs' ≡ length cs) × (length ks' ≡ length ks)
-put-long {xs} {n} {fs = fs} {cs = cs} {ks = ks} p = (
-  ap length p.first ∙ length-sets fs n (firsts xs),
-  ap length p.second ∙ length-sets cs n (counts xs),
-  ap length p.third ∙ length-sets ks n (kinds xs),
-)
 
 -- Of `all`, which are to be written from the front on, `rest` are left.
 pub record Filling (all rest : List Run) (at : ℕ) (fs₀ cs₀ ks₀ fs cs ks : List ℕ) : Type 0 where

@@ -2,21 +2,25 @@
 use mathlib.Core.Path.{◌≡◌, refl, ap, ◌∙◌, subst}
 use mathlib.Core.Bool.{Bool}
 use mathlib.Core.List.{List, ◌++◌}
-use Prim.Native.Nat.{ℕ, suc, ◌+◌, ◌-◌, ◌≤◌, ◌<◌}
+use Prim.Native.Nat.{ℕ, suc, ◌+◌, ◌-◌, ◌*◌, ◌≤◌, ◌<◌}
 use native.Mathlib.Numerals.{add-one}
 use native.Mathlib.Omega.{arith}
 use native.Mathlib.Decide.{ℕ_discrete}
 use borrow.Author.Tests.{eq-eqb, ne_eqb}
 use lib.Dec.{eqb}
-use lib.ListN.{length}
+use lib.ListN.{length, get_or}
+use Rattle.overlay.specs.Cover.{covered_bit}
 use Rattle.verify.specs.Whole.{Sound}
 use Rattle.verify.specs.Runs.{Readback, Run, kind_by, kind_of, closed, closed_at, started_at, runs_from, runs_of}
 use Rattle.verify.specs.Put.{Cursor, Put}
 use Rattle.verify.proofs.Cursors.{cursor-starts}
 use Rattle.verify.proofs.Filling.{Filling, filling-starts, filling-on, filling-ends}
 
-pub kind-same : {a a' g g' : Bool} {x x' y y' : ℕ} → a ≡ a' → g ≡ g' → x ≡ x' → y ≡ y' → kind_by a g (eqb x y) ≡ kind_by a' g' (eqb x' y')
-kind-same e f g h = rw (e, f, g, h)
+-- what is to be said of byte b, by its parts
+pub kind-is : (t : Readback) (b : ℕ) {n x y : ℕ} {a g : Bool} → n ≡ kind_by a g (eqb x y) → a ≡ covered_bit t.offsets t.sizes (8 * b)
+    → g ≡ covered_bit t.given_offsets t.given_sizes (8 * b) → x ≡ get_or t.image b 0 → y ≡ get_or t.bytes b 0 → n ≡ kind_of t b
+unfolding kind_of
+kind-is t b e f g h i = e ∙ rw (f, g, h, i)
 
 started_below : (kind next first b : ℕ) → first ≤ b → started_at kind next first b ≤ b
 started_below kind next first b h =

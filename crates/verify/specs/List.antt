@@ -1,10 +1,9 @@
 -- What a call of `compare` gives.
-use Rattle.std.specs.Prelude.{◌≡◌, Bool, false, List, ℕ, leb, length}
+use Rattle.std.specs.Prelude.{◌≡◌, Bool, false, List, ℕ, leb, length, Result, Ok, Err}
 use Rattle.prelude.specs.Pick.{pick}
 use Rattle.prelude.specs.declared.Refusal.TheVariants.{Malformed, BadPart, TooShort}
+use Rattle.prelude.specs.declared.Refusal.{Refusal}
 use Rattle.blocks.specs.Outcome.{over}
-use Rattle.overlay.specs.declared.Listed.{Listed}
-use Rattle.overlay.specs.declared.Listed.TheVariants.{Runs, Refused}
 use Rattle.overlay.specs.Order.{in_order}
 use Rattle.verify.specs.Whole.{all_whole}
 use Rattle.verify.specs.Runs.{Readback, Run, runs_of}
@@ -15,8 +14,8 @@ abbrev pub room_for : List Run → List ℕ → List ℕ → List ℕ → Bool
 room_for runs fs cs ks = pick (leb (length runs) (length fs)) (pick (leb (length runs) (length cs)) (leb (length runs) (length ks)) false) false
 
 -- "14 comes last", "a lent output is too short": the runs are written where there is room for all of them; what stands past them stays.
-pub record Written (runs : List Run) (fs₀ cs₀ ks₀ : List ℕ) (r : Listed) (fs₁ cs₁ ks₁ : List ℕ) : Type 0 where
-  pub answer : r ≡ pick (room_for runs fs₀ cs₀ ks₀) (Runs (length runs)) (Refused (TooShort 2))
+pub record Written (runs : List Run) (fs₀ cs₀ ks₀ : List ℕ) (r : Result ℕ Refusal) (fs₁ cs₁ ks₁ : List ℕ) : Type 0 where
+  pub answer : r ≡ pick (room_for runs fs₀ cs₀ ks₀) (Ok (length runs)) (Err (TooShort 2))
   pub first : fs₁ ≡ pick (room_for runs fs₀ cs₀ ks₀) (over (firsts runs) fs₀) fs₀
   pub second : cs₁ ≡ pick (room_for runs fs₀ cs₀ ks₀) (over (counts runs) cs₀) cs₀
   pub third : ks₁ ≡ pick (room_for runs fs₀ cs₀ ks₀) (over (kinds runs) ks₀) ks₀
@@ -32,9 +31,9 @@ fitting t = pick (all_whole (length t.image) t.offsets t.sizes) (all_whole (leng
 abbrev pub tried : {A : Type 0} → Readback → A → A → A → A
 tried t unordered unfit found = pick (ordered t) (pick (fitting t) found unfit) unordered
 
-pub record Lists (t : Readback) (fs₀ cs₀ ks₀ : List ℕ) (r : Listed) (fs₁ cs₁ ks₁ : List ℕ) : Type 0 where
-  pub answer : r ≡ tried t (Refused (Malformed 0)) (Refused BadPart)
-      (pick (room_for (runs_of t) fs₀ cs₀ ks₀) (Runs (length (runs_of t))) (Refused (TooShort 2)))
+pub record Lists (t : Readback) (fs₀ cs₀ ks₀ : List ℕ) (r : Result ℕ Refusal) (fs₁ cs₁ ks₁ : List ℕ) : Type 0 where
+  pub answer : r ≡ tried t (Err (Malformed 0)) (Err BadPart)
+      (pick (room_for (runs_of t) fs₀ cs₀ ks₀) (Ok (length (runs_of t))) (Err (TooShort 2)))
   pub first : fs₁ ≡ tried t fs₀ fs₀ (pick (room_for (runs_of t) fs₀ cs₀ ks₀) (over (firsts (runs_of t)) fs₀) fs₀)
   pub second : cs₁ ≡ tried t cs₀ cs₀ (pick (room_for (runs_of t) fs₀ cs₀ ks₀) (over (counts (runs_of t)) cs₀) cs₀)
   pub third : ks₁ ≡ tried t ks₀ ks₀ (pick (room_for (runs_of t) fs₀ cs₀ ks₀) (over (kinds (runs_of t)) ks₀) ks₀)

@@ -1,17 +1,15 @@
 -- Laws that Theorems/FillBits rests on.
-use Rattle.std.specs.Prelude.{◌≡◌, refl, Bool, true, false, List, [], ◌∷◌, ℕ, zero, suc, ◌+◌, ◌≤◌, ◌<◌, ltb, leb, eqb, length, get_or, drop}
+use Rattle.std.specs.Prelude.{◌≡◌, refl, Bool, true, false, List, [], ◌∷◌, ℕ, zero, suc, ◌+◌, ◌≤◌, ◌<◌, ltb, leb, eqb, length, get_or, drop, Option, None, Some}
 use Rattle.std.proofs.Common.{sym, ◌∙◌, arith, ltb-true, leb-true, eqb-true}
 use Rattle.std.proofs.lemmas.Bool.{eqb-false}
 use Rattle.prelude.specs.Pick.{pick}
-use Rattle.prelude.specs.declared.Opt.{Opt}
-use Rattle.prelude.specs.declared.Opt.TheVariants.{None, Some}
 use Rattle.bankdef.specs.declared.Bankdef.{Bankdef}
 use Rattle.prelude.specs.Laws.Bools.{either, clash, both, or_left, or_right}
 use Rattle.bankdef.specs.Check.{no_bank}
 use Rattle.bankdef.specs.SharedBit.{InPlace, InBank}
 use Rattle.bankdef.specs.FillBits.{FillsBit, fill_bit_at, fills_by, ones_at, ones_in}
 
-pub fills-cases : (b : Bankdef) (p : ℕ) (fill : Bool) (size offset : Opt) → b.fill ≡ fill → b.size ≡ size → b.offset ≡ offset
+pub fills-cases : (b : Bankdef) (p : ℕ) (fill : Bool) (size offset : Option ℕ) → b.fill ≡ fill → b.size ≡ size → b.offset ≡ offset
     → fills_by fill size offset p ≡ true → FillsBit b p
 fills-cases b p false size offset e f g t = absurd (clash t refl)
 fills-cases b p true None offset e f g t = absurd (clash t refl)
@@ -28,7 +26,7 @@ fills-cases b p true (Some size) (Some offset) e f g t =
       past = ltb-true p (offset + size) s.1;
     }
 
-placed : (offset size : Opt) (from bits p : ℕ) → offset ≡ Some from → size ≡ Some bits → from ≤ p → p < from + bits → InPlace offset size p
+placed : (offset size : Option ℕ) (from bits p : ℕ) → offset ≡ Some from → size ≡ Some bits → from ≤ p → p < from + bits → InPlace offset size p
 placed offset size from bits p e f h l = rw (e, f) (h, l)
 
 pub fills-in-bank : (b : Bankdef) (p : ℕ) → FillsBit b p → InBank b p

@@ -1,17 +1,15 @@
 -- Laws that Theorems/FillFacts rests on.
-use Rattle.std.specs.Prelude.{◌≡◌, refl, Bool, true, false, ℕ, ◌+◌, ◌-◌, ltb}
+use Rattle.std.specs.Prelude.{◌≡◌, refl, Bool, true, false, ℕ, ◌+◌, ◌-◌, ltb, Option, None, Some}
 use Rattle.std.proofs.Common.{ltb-true, ltb-false}
 use Rattle.prelude.specs.Laws.Bools.{either, clash, unlike}
-use Rattle.prelude.specs.declared.Opt.{Opt}
-use Rattle.prelude.specs.declared.Opt.TheVariants.{None, Some}
 use Rattle.bankdef.specs.declared.Bankdef.{Bankdef}
 use Rattle.bankdef.specs.Fill.{filled_by}
 use Rattle.bankdef.specs.FillFacts.{Filled, Fills, enough, raises, without}
 
-some_size : {o : Opt} {m : ℕ} → o ≡ None → o ≡ Some m → ⊥
+some_size : {o : Option ℕ} {m : ℕ} → o ≡ None → o ≡ Some m → ⊥
 some_size e f = unlike cc
 
-pub filled-cases : (b : Bankdef) (n : ℕ) (fill : Bool) (size offset : Opt) → b.fill ≡ fill → b.size ≡ size → b.offset ≡ offset
+pub filled-cases : (b : Bankdef) (n : ℕ) (fill : Bool) (size offset : Option ℕ) → b.fill ≡ fill → b.size ≡ size → b.offset ≡ offset
     → Filled b n (filled_by fill size offset n)
 filled-cases b n false size offset e f g = without (λ h s. clash s.fill e)
 filled-cases b n true None offset e f g = without (λ h s. some_size f s.size)

@@ -1,13 +1,10 @@
 -- Laws that Theorems/Pairs rests on.
-use Rattle.std.specs.Prelude.{◌≡◌, refl, true, false, List, [], ◌∷◌, ℕ, zero, suc, ◌+◌, ◌<◌, length, get_or}
+use Rattle.std.specs.Prelude.{◌≡◌, refl, true, false, List, [], ◌∷◌, ℕ, zero, suc, ◌+◌, ◌<◌, length, get_or, Err, Option, Some, None}
 use Rattle.std.proofs.Common.{inl, inr, ⊎_elim, arith, ltb-true}
-use Rattle.prelude.specs.declared.Opt.{Opt}
-use Rattle.prelude.specs.declared.Opt.TheVariants.{None, Some}
 use Rattle.prelude.specs.declared.Refusal.TheVariants.{BanksOverlap}
-use Rattle.prelude.specs.declared.Verdict.{Verdict}
-use Rattle.prelude.specs.declared.Verdict.TheVariants.{Accepted, Refused}
 use Rattle.bankdef.specs.declared.Bankdef.{Bankdef}
 use Rattle.prelude.specs.Laws.Bools.{either, clash}
+use Rattle.prelude.specs.Verdict.{Verdict, Accepted}
 use Rattle.bankdef.specs.Search.{first_where, some_where}
 use Rattle.bankdef.specs.Laws.Search.{not-before, some, first_passes}
 use Rattle.bankdef.specs.Overlap.{ranges_overlap, places_overlap, pair_overlaps}
@@ -22,7 +19,7 @@ pub record Meets (l : List Bankdef) (a b : ℕ) : Type 0 where
 
 pub data Answer (i : ℕ) (l : List Bankdef) : Verdict → Type 0 where
   none : ((a b : ℕ) → Meets l a b → ⊥) → Answer i l Accepted
-  first : (a b x y : ℕ) → x ≡ i + a → y ≡ i + b → Meets l a b → ((c d : ℕ) → Meets l c d → NoLater a b c d) → Answer i l (Refused (BanksOverlap x y))
+  first : (a b x y : ℕ) → x ≡ i + a → y ≡ i + b → Meets l a b → ((c d : ℕ) → Meets l c d → NoLater a b c d) → Answer i l (Err (BanksOverlap x y))
 
 -- a pair of the list, counted with one element before it
 abbrev Within : List Bankdef → ℕ → ℕ → Type 0
@@ -62,7 +59,7 @@ answer i (x ∷ l) =
     (nearest x l)))
     (λ t. rw t (further i x l t (answer (i + 1) l)))
 
-offsets : (a m b n : Opt) → places_overlap a m b n ≡ true → (o : ℕ) × (p : ℕ) × (a ≡ Some o) × (b ≡ Some p) × (ranges_overlap o m p n ≡ true)
+offsets : (a m b n : Option ℕ) → places_overlap a m b n ≡ true → (o : ℕ) × (p : ℕ) × (a ≡ Some o) × (b ≡ Some p) × (ranges_overlap o m p n ≡ true)
 offsets None m b n e = absurd (clash e refl)
 offsets (Some o) m None n e = absurd (clash e refl)
 offsets (Some o) m (Some p) n e = (o, p, refl, refl, e)

@@ -1,10 +1,10 @@
 -- Laws that Theorems/Refused rests on.
 use Rattle.std.specs.Prelude.{◌≡◌, refl, true, false, List, ℕ, zero, suc, ◌≤◌, ◌<◌, length, get_or}
 use Rattle.std.proofs.Common.{arith, lt-ltb, eqb-true, ne_eqb}
-use Rattle.prelude.specs.declared.Verdict.{Verdict}
 use Rattle.bankdef.specs.declared.Bankdef.{Bankdef}
 use Rattle.bankdef.specs.declared.Bankdefs.{Bankdefs}
 use Rattle.prelude.specs.Laws.Bools.{either, clash}
+use Rattle.prelude.specs.Verdict.{Verdict}
 use Rattle.bankdef.specs.Search.{first_where}
 use Rattle.bankdef.specs.Laws.Search.{not-before, first_passes}
 use Rattle.bankdef.specs.Numbers.{fill_bit, bank_fault, zero_fault, fault_at, bank-0-one}

@@ -1,6 +1,6 @@
 -- Laws that Theorems/Told rests on.
 use Rattle.prelude.specs.Told.{told_verdict}
-use Rattle.prelude.specs.declared.Verdict.{Verdict}
+use Rattle.prelude.specs.Verdict.{Verdict}
 use Rattle.bankdef.specs.declared.Bankdefs.{Bankdefs}
 use Rattle.bankdef.specs.Refused as by
 use Rattle.bankdef.specs.Refused.{Decided}

@@ -1,10 +1,10 @@
 -- Theorems about what FillBits defines.
 use Rattle.std.specs.Prelude.{◌≡◌, refl, true, List, [], ◌∷◌, ◌↔◌, ℕ, zero, suc, ◌+◌, ◌<◌, eqb, length, get_or, drop}
 use Rattle.std.proofs.Common.{ap, ◌∙◌, arith, length-take, get_or-take, lt-ltb, le-leb, eqb-true}
-use Rattle.prelude.specs.declared.Verdict.TheVariants.{Accepted}
 use Rattle.bankdef.specs.declared.Bankdef.{Bankdef}
 use Rattle.bankdef.specs.declared.Bankdefs.{Bankdefs}
 use Rattle.prelude.specs.Laws.Bools.{both}
+use Rattle.prelude.specs.Verdict.{Accepted}
 use Rattle.bankdef.specs.Numbers.{fill_bit, SoundBank}
 use Rattle.bankdef.specs.Check.{no_bank, banks_of, check_of}
 use Rattle.bankdef.specs.Theorems.Refused.{accepted}

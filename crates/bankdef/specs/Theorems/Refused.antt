@@ -2,9 +2,9 @@
 use Rattle.std.specs.Prelude.{◌≡◌, refl, true, ◌<◌, leb, length, get_or}
 use Rattle.std.proofs.Common.{subst, arith, ltb-true, leb-true, length-take, get_or-take}
 use Rattle.prelude.specs.Limits.{max_banks}
-use Rattle.prelude.specs.declared.Verdict.TheVariants.{Accepted}
 use Rattle.bankdef.specs.declared.Bankdefs.{Bankdefs}
 use Rattle.prelude.specs.Laws.Bools.{either, clash, both}
+use Rattle.prelude.specs.Verdict.{Accepted}
 use Rattle.bankdef.specs.Numbers.{fill_bit, bank_fault, fault_at, bank-0-one}
 use Rattle.bankdef.specs.Theorems.Numbers.{sound-bank, fault-anywhere, fault-exactly}
 use Rattle.bankdef.specs.Check.{no_bank, banks_of, count_sound, first_fault, some_fault, check_of}

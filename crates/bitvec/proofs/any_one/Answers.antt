@@ -1,21 +1,14 @@
-use native.Mathlib.Omega.{arith}
-use Rattle.bitvec.proofs.OnesLaws.{none_more, any_none, any_some}
+-- `bitvec::any_one`: a bit that is read is a one, or is none.
+use Rattle.std.proofs.Common.{◌≡◌, ℕ, ◌-◌, refl, rules, tests}
+use Rattle.std.proofs.lemmas.Iterator.{cases_from_any, YieldsList-from_range}
+use Rattle.bitvec.specs.Bits.{bit_at}
+use Rattle.bitvec.proofs.OnesLaws.{bit-one, bit-none, any-told}
 use Rattle.bitvec.proofs.any_one.Goals as goal
-
-pub returns-then-bits_from-eq1 : goal.returns-then-bits_from-eq1
-returns-then-bits_from-eq1 c =
-    let a = c.args in
-    any_some a.image.now a.from a.end c.last_bit-stop.result c.loop-i.i c.bits_from.result c.last_bit-stop.ensures c.loop-i.invariant.0
-    c.loop-i-test.true c.bits_from.ensures c.if-bits_from-eq1.true
-
-pub loop-i-preserved : goal.loop-i-preserved
-loop-i-preserved c =
-    let a = c.args in (
-      omega (arith, c.loop-i.invariant.0),
-      none_more a.image.now a.from c.loop-i.i c.bits_from.result c.loop-i.invariant.1 c.bits_from.ensures c.if-bits_from-eq1.false,
-    )
 
 pub returns : goal.returns
 returns c =
     let a = c.args in
-    any_none a.image.now a.from a.end c.last_bit-stop.result c.loop-i.i c.last_bit-stop.ensures c.loop-i-test.false c.loop-i.invariant.1
+    let stop = c.last_bit-stop.result in
+    any-told a.image.now a.from a.end stop c.any.result c.last_bit-stop.ensures
+    (cases_from_any _ _ _ (λ (i : ℕ). bit_at a.image.now i ≡ 1) (λ (i : ℕ). bit_at a.image.now i ≡ 0) c.any.ensures.ran
+    (YieldsList-from_range a.from stop (stop - a.from) refl refl) (λ x q k. search (rules, tests, bit-one)) (λ x q k. (search rules, search (rules, tests, bit-none))))

@@ -1,22 +1,11 @@
-use Prim.Native.Nat.{◌*◌}
-use mathlib.Core.Path.{refl}
-use native.Mathlib.Omega.{arith}
-use lib.ListN.{length-set}
-use Rattle.bitvec.specs.Theorems.Ones.{ones_none}
-use Rattle.bitvec.proofs.OnesLaws.{ones-more}
+-- `bitvec::fill_bytes`: each byte filled is all ones.
+use Rattle.std.proofs.Common.{◌≡◌, ◌-◌, replicate, ap, ◌∙◌, rules}
+use Rattle.std.proofs.lemmas.List.{places}
+use Rattle.bitvec.proofs.OnesLaws.{ones-bytes}
 use Rattle.bitvec.proofs.fill_bytes.Goals as goal
 
-pub loop-i-init : goal.loop-i-init
-loop-i-init c =
+pub returns : goal.returns
+returns c =
     let a = c.args in
-    (omega arith, omega arith, refl, ones_none a.image.now (8 * a.j) (8 * a.j) c.requires.bytes (omega arith))
-
-pub loop-i-preserved : goal.loop-i-preserved
-loop-i-preserved c =
-    let a = c.args in
-    let i = c.loop-i.i in (
-      omega arith,
-      omega arith,
-      simp length-set (omega arith),
-      rw c.loop-i.invariant.3 (ones-more a.image.now a.j i (omega arith) (omega arith)),
-    )
+    let e : c.fill.new.self ≡ replicate (a.k - a.j) 255 = c.fill.ensures.after (λ y h. search rules) ∙ ap (λ n. replicate n 255) (search (rules, places)) in
+    rw e (ones-bytes a.image.now a.j a.k c.requires.bytes c.requires.j_le_k.0 c.requires.j_le_k.1)

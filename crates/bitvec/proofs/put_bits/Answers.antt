@@ -1,7 +1,7 @@
 -- `bitvec::put_bits` stores one spliced byte, which is an item that lies in that byte.
 use Prim.Native.Nat.{◌+◌, ◌*◌}
 use mathlib.Core.Path.{sym}
-use native.Mathlib.Omega.{arith}
+use Rattle.std.proofs.Common.{arith, rules}
 use Rattle.bitvec.specs.Laws.Numeral.{numeral-lt}
 use Rattle.bitvec.specs.Laws.Bits.{bit_at_lt}
 use Rattle.bitvec.proofs.Pieces.{written_none, stored-piece}
@@ -11,20 +11,20 @@ pub returns-then-n-eq0 : goal.returns-then-n-eq0
 returns-then-n-eq0 c =
     let a = c.args in
     sym
-    (written_none a.image.now (8 * a.j + a.at) a.values.now (8 * a.k + a.s) a.n
-    (λ i. (c.slice_known-1.given i).fits) c.if-n-eq0.true)
+    (written_none a.image.now (8 * a.to.byte + a.to.bit) a.values.now (8 * a.from.byte + a.from.bit) a.n
+    (search rules) c.if-n-eq0.true)
 
 pub splice-requires : goal.splice-requires
 splice-requires c =
     let a = c.args in (
       omega arith,
       omega arith,
-      rw c.bits_from-chunk.ensures (numeral-lt a.n _ (λ i. bit_at_lt a.values.now (8 * a.k + a.s + i))),
+      rw c.bits_from-chunk.ensures (numeral-lt a.n _ (λ i. bit_at_lt a.values.now (8 * a.from.byte + a.from.bit + i))),
     )
 
 pub returns : goal.returns
 returns c =
     let a = c.args in
-    stored-piece a.image.now a.j a.at a.values.now (8 * a.k + a.s) a.n c.bits_from-chunk.result
-    c.splice.result (λ i. (c.slice_known-2-1.given i).fits) (omega arith) (omega arith)
-    c.bits_from-chunk.ensures (rw (sym c.wide-old.ensures.0) c.splice.ensures.0)
+    stored-piece a.image.now a.to.byte a.to.bit a.values.now (8 * a.from.byte + a.from.bit) a.n c.bits_from-chunk.result
+    c.splice.result (search rules) (omega arith) (omega arith)
+    c.bits_from-chunk.ensures (rw (sym c.from-old.ensures) c.splice.ensures.0)

@@ -1,7 +1,7 @@
 -- `bitvec::set_ones` makes the range's ones up to the image's end, which is all of them.
 use Prim.Native.Nat.{◌*◌, min}
 use mathlib.Core.Path.{refl, ◌∙◌}
-use native.Mathlib.Omega.{arith}
+use Rattle.std.proofs.Common.{arith, rules}
 use lib.ListN.{length}
 use Rattle.bitvec.specs.Theorems.Ones.{ones_none, ones_cut}
 use Rattle.bitvec.proofs.OnesLaws.{same-range}
@@ -11,7 +11,7 @@ pub returns-then-stop-from : goal.returns-then-stop-from
 returns-then-stop-from c =
     let a = c.args in
     record {
-      bytes = ones_none a.image.now a.from a.end (λ i. (c.slice_known-1.given i).fits)
+      bytes = ones_none a.image.now a.from a.end (search rules)
           (omega (arith, c.last_bit-stop.ensures, c.if-stop-from.true));
     }
 

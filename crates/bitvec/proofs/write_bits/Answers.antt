@@ -1,7 +1,5 @@
 -- `bitvec::write_bits` tests both ends, and writes the item at the byte and the bit that its position and start give.
-use Prim.Native.Nat.{◌+◌, ◌*◌, ◌/◌, ◌%◌}
-use mathlib.Core.Path.{◌≡◌, sym, ◌∙◌}
-use native.Mathlib.Omega.{arith}
+use mathlib.Core.Path.{sym, ◌∙◌}
 use Rattle.bitvec.proofs.Pieces.{accepted, refused}
 use Rattle.bitvec.proofs.write_bits.Goals as goal
 use Rattle.bitvec.proofs.write_bits.Goals.{else-ends_within-via-then-ends_within+else-ends_within-2, else-ends_within-via-else-ends_within}
@@ -9,12 +7,10 @@ use Rattle.bitvec.proofs.write_bits.Goals.{else-ends_within-via-then-ends_within
 pub returns-then-ends_within-2 : goal.returns-then-ends_within-2
 returns-then-ends_within-2 c =
     let a = c.args in
-    let p : 8 * (a.position / 8) + a.position % 8 ≡ a.position = omega arith in
-    let q : 8 * (a.start / 8) + a.start % 8 ≡ a.start = omega arith in
     accepted a.image.now a.position a.values.now a.start a.size c.write_item.new.image
     (sym c.ends_within.ensures ∙ c.if-ends_within.true)
     (sym c.ends_within-then-ends_within.ensures ∙ c.if-ends_within-2.true)
-    (rw (p, q) at c.write_item.ensures)
+    (rw (c.of.ensures, c.of-then-ends_within-2.ensures) at c.write_item.ensures)
 
 pub returns : goal.returns
 returns c =

@@ -8,6 +8,6 @@ pub returns : goal.returns
 returns c =
     let a = c.args in
     two_runs a.image.now c.write_bytes.new.image c.put_bits.new.image
-    (8 * a.j) a.values.now (8 * a.k + a.s) (8 * (a.size / 8)) (a.size % 8) a.size (8 * (a.j + a.size / 8) + 0)
-    (8 * (a.k + a.size / 8) + a.s) c.write_bytes.ensures
+    (8 * a.j) a.values.now (8 * a.from.byte + a.from.bit) (8 * (a.size / 8)) (a.size % 8) a.size (8 * (a.j + a.size / 8) + 0)
+    (8 * c.skip.result.byte + c.skip.result.bit) c.write_bytes.ensures
     c.put_bits.ensures (omega arith) (omega arith) (omega arith)

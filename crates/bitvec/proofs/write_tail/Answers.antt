@@ -12,11 +12,11 @@ use Rattle.bitvec.proofs.write_tail.Goals as goal
 pub returns-then-left-le4 : goal.returns-then-left-le4
 returns-then-left-le4 c =
     -- the byte with zeros past the bit length
-    let padded : c.wide-byte.result - c.wide-byte.result % c.power.result
+    let padded : c.from-byte.result - c.from-byte.result % c.power.result
     ≡ printed c.args.bytes.now c.args.bits
     (c.args.bits / 8) =
     let a = c.args in
-    rw c.wide-byte.ensures.0
+    rw c.from-byte.ensures
     (last a.bytes.now a.bits (λ n. (c.type_inv.bytes n).fits) c.power.result c.power.ensures.0) in
     let a = c.args in
     record {
@@ -29,11 +29,11 @@ returns-then-left-le4 c =
 pub returns : goal.returns
 returns c =
     -- the byte with zeros past the bit length
-    let padded : c.wide-byte.result - c.wide-byte.result % c.power.result
+    let padded : c.from-byte.result - c.from-byte.result % c.power.result
     ≡ printed c.args.bytes.now c.args.bits
     (c.args.bits / 8) =
     let a = c.args in
-    rw c.wide-byte.ensures.0
+    rw c.from-byte.ensures
     (last a.bytes.now a.bits (λ n. (c.type_inv.bytes n).fits) c.power.result c.power.ensures.0) in
     let a = c.args in
     record {

@@ -1,10 +1,9 @@
 -- Theorems about what HexDigits defines.
-use Rattle.std.specs.Prelude.{◌≡◌, refl, Bool, true, false, List, ◌++◌, ℕ, ◌+◌, ◌-◌, ◌*◌, ◌≤◌, ◌<◌, leb, ltb, length, get_or, drop}
+use Rattle.std.specs.Prelude.{◌≡◌, refl, Bool, true, false, List, ◌++◌, ℕ, ◌+◌, ◌-◌, ◌*◌, ◌≤◌, ◌<◌, leb, ltb, length, get_or, drop, Ok, Err, Result}
 use Rattle.std.proofs.Common.{sym, ap, subst, ◌∙◌, arith, get_or-append-add, get_or-drop, lt-ltb, le-ltb, leb-true, leb-false}
 use Rattle.prelude.specs.Pick.{pick}
 use Rattle.prelude.specs.declared.Refusal.TheVariants.{Malformed, TooShort}
-use Rattle.bitvec.specs.declared.Hex.{Hex}
-use Rattle.bitvec.specs.declared.Hex.TheVariants.{Digits, Refused}
+use Rattle.prelude.specs.declared.Refusal.{Refusal}
 use Rattle.bitvec.specs.Within.{ends_within}
 use Rattle.bitvec.specs.Laws.Lists.{length-list_of, get_d-list_of}
 use Rattle.bitvec.specs.Numeral.{Bits}
@@ -15,14 +14,14 @@ use Rattle.bitvec.specs.HexDigits.{HexTold, digit_at, digit_count, digit_of, dig
 
 module _ (bytes : List ℕ) (bits : ℕ) (hex : List ℕ) where
   by_tests : (p r : Bool) → ends_within (length bytes) 0 bits ≡ p → leb (digit_count bits) (length hex) ≡ r
-      → HexTold bytes bits hex (told_hex (pick p (pick r (Digits (digit_count bits)) (Refused (TooShort 3))) (Refused (Malformed 0))))
+      → HexTold bytes bits hex (told_hex (pick p (pick r (Ok (digit_count bits)) (Err (TooShort 3))) (Err (Malformed 0))))
   by_tests false r e f = let h = leb-false (0 + bits) (8 * length bytes) e in past (omega arith)
   by_tests true false e f = let h = leb-true (0 + bits) (8 * length bytes) e in short (omega arith) (leb-false (digit_count bits) (length hex) f)
   by_tests true true e f = let h = leb-true (0 + bits) (8 * length bytes) e in printed (omega arith) (leb-true (digit_count bits) (length hex) f)
 
-  pub hex-told : {count : Hex} → count ≡ hex_answer bytes bits hex → HexTold bytes bits hex (told_hex count)
+  pub hex-told : {count : Result ℕ Refusal} → count ≡ hex_answer bytes bits hex → HexTold bytes bits hex (told_hex count)
   hex-told e =
-      subst (λ (x : Hex). HexTold bytes bits hex (told_hex x)) (sym e)
+      subst (λ (x : Result ℕ Refusal). HexTold bytes bits hex (told_hex x)) (sym e)
       (by_tests (ends_within (length bytes) 0 bits) (leb (digit_count bits) (length hex)) refl refl)
 
 module _ (bytes : List ℕ) (bits : ℕ) where

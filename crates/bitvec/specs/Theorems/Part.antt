@@ -1,5 +1,5 @@
 -- Theorems about what Part defines.
-use Rattle.std.specs.Prelude.{◌≡◌, refl, Bool, true, false, ◌&&◌, ◌↔◌, List, [], ℕ, ◌+◌, ◌*◌, ◌/◌, ◌%◌, ◌<◌, ltb, eqb, length, get_or, drop}
+use Rattle.std.specs.Prelude.{◌≡◌, refl, Bool, true, false, ◌↔◌, List, [], ℕ, ◌+◌, ◌*◌, ◌/◌, ◌%◌, ◌<◌, eqb, length, get_or, drop, Err}
 use Rattle.std.proofs.Common.{sym, subst, ltb-true, eqb-true, leb-true, leb-false, lt-ltb, le-leb, arith, length-take, length-drop, get_or-take, get_or-drop}
 use Rattle.std.proofs.Math.Bool.{and-eq-true_iff}
 use Rattle.std.proofs.lemmas.Bool.{eqb-false}
@@ -8,8 +8,7 @@ use Rattle.prelude.specs.Laws.Bools.{either, clash}
 use Rattle.prelude.specs.Pick.{pick}
 use Rattle.prelude.specs.Told.{Told, Nothing, told_number, told_verdict}
 use Rattle.prelude.specs.declared.Refusal.TheVariants.{BadPart}
-use Rattle.prelude.specs.declared.Verdict.{Verdict}
-use Rattle.prelude.specs.declared.Verdict.TheVariants.{Accepted, Refused}
+use Rattle.prelude.specs.Verdict.{Accepted, Verdict}
 use Rattle.bitvec.specs.Within.{ends_within}
 use Rattle.bitvec.specs.Laws.Part.{fit-not}
 use Rattle.bitvec.specs.Part.{IsPart, Judges, PartTold, Unfit, empty, fit, is_part, outside, part_of, part_verdict, ragged-end, ragged-start, unfit}
@@ -51,7 +50,7 @@ unfit-of len offset size n =
 -- What is told by a test that finds each part. That `is_part` finds it is shown anew in each theorem that follows from it here, so
 -- that a definition that finds none is refused in each of them alone.
 by-test : (len offset size : ℕ) (t : Bool) → (t ≡ true → IsPart len offset size) → (IsPart len offset size → t ≡ true)
-    → PartTold len offset size (told_verdict (pick t Accepted (Refused BadPart)))
+    → PartTold len offset size (told_verdict (pick t Accepted (Err BadPart)))
 by-test len offset size true is finds = fit (is refl)
 by-test len offset size false is finds = unfit (unfit-of len offset size (λ p. clash (finds p) refl))
 

@@ -1,11 +1,11 @@
 -- Theorems about what Written defines.
-use Rattle.std.specs.Prelude.{◌≡◌, true, List, ℕ, ◌+◌, ◌-◌, ◌*◌, ◌≤◌, ◌<◌, length}
+use Rattle.std.specs.Prelude.{◌≡◌, true, List, ℕ, ◌+◌, ◌-◌, ◌*◌, ◌≤◌, ◌<◌, length, Err}
 use Rattle.std.proofs.Common.{sym, ap, ◌∙◌, arith, leb-true}
 use Rattle.std.proofs.Math.Bool.{and-eq-true_iff}
 use Rattle.std.proofs.Math.Decide.{dec_lt}
 use Rattle.prelude.specs.declared.Refusal.{Refusal}
 use Rattle.prelude.specs.declared.Refusal.TheVariants.{Malformed}
-use Rattle.prelude.specs.declared.Verdict.TheVariants.{Accepted, Refused}
+use Rattle.prelude.specs.Verdict.{Accepted}
 use Rattle.bitvec.specs.Within.{ends_within, covers}
 use Rattle.bitvec.specs.Laws.Within.{covers-inside, covers-not}
 use Rattle.bitvec.specs.Numeral.{Bits}
@@ -80,7 +80,7 @@ module _ (image : List ℕ) (position : ℕ) (values : List ℕ) (start size : �
     accepted-other k out = rw accepted-written (written-other image position values start size k out)
 
   -- A refused call leaves the image as it was.
-  pub refused-kept : (r : Refusal) → Writes image position values start size (Refused r) after → after ≡ image
+  pub refused-kept : (r : Refusal) → Writes image position values start size (Err r) after → after ≡ image
   refused-kept r call =
       let e = refused-test (is_written image position values start size) r (Malformed 0) call.answer in
       call.bytes ∙ rw e

@@ -1,10 +1,8 @@
 -- Laws that Theorems/Acceptable rests on.
-use Rattle.std.specs.Prelude.{◌≡◌, refl, Bool, true, false, List, [], ◌∷◌, ℕ, zero, suc, ◌≤◌, ◌<◌, leb, length, get_or}
+use Rattle.std.specs.Prelude.{◌≡◌, refl, Bool, true, false, List, [], ◌∷◌, ℕ, zero, suc, ◌≤◌, ◌<◌, leb, length, get_or, Option, None, Some}
 use Rattle.std.proofs.lemmas.Bool.{false≢true}
 use Rattle.std.proofs.Common.{suc-ne-zero, not-suc-le-zero, le_of_suc-le-suc, arith, le-leb, leb-true}
 use Rattle.std.proofs.Math.Nat.{suc_inj}
-use Rattle.prelude.specs.declared.Offset.{Offset}
-use Rattle.prelude.specs.declared.Offset.TheVariants.{None, At}
 use Rattle.prelude.specs.Limits.{max_offer, max_position}
 use Rattle.prelude.specs.Pick.{pick}
 use Rattle.blocks.specs.Offsets.{offset_of}
@@ -21,13 +19,13 @@ within-parts word size e =
     let b = both_true (offset_within (offset_of word)) (leb size max_position) e in
     (b.0, leb-true size max_position b.1)
 
-pub offset-fits : (o : Offset) → offset_within o ≡ true → OffsetFits o
+pub offset-fits : (o : Option ℕ) → offset_within o ≡ true → OffsetFits o
 offset-fits None e = tt
-offset-fits (At o) e = leb-true o max_offer e
+offset-fits (Some o) e = leb-true o max_offer e
 
-fits-offset : (o : Offset) → OffsetFits o → offset_within o ≡ true
+fits-offset : (o : Option ℕ) → OffsetFits o → offset_within o ≡ true
 fits-offset None h = refl
-fits-offset (At o) h = le-leb o max_offer h
+fits-offset (Some o) h = le-leb o max_offer h
 
 -- Each of spans that are all within the limits is,
 pub each_within : (ws zs : List ℕ) → length ws ≡ length zs → all_within (spans_of ws zs) ≡ true → (k : ℕ) → k < length ws

@@ -1,5 +1,5 @@
 -- Laws that Theorems/Bits rests on.
-use Rattle.std.specs.Prelude.{◌≡◌, ℕ, ◌+◌, ◌≤◌, ◌<◌, leb, ltb}
+use Rattle.std.specs.Prelude.{Some, ◌≡◌, ℕ, ◌+◌, ◌≤◌, ◌<◌, leb, ltb, Option, None}
 use Rattle.std.proofs.Math.Path.{refl}
 use mathlib.Core.List.Memᴰ
 use mathlib.Core.List.{List, [], ◌∷◌}
@@ -7,8 +7,6 @@ use Rattle.std.proofs.Math.Logic.{⊎_elim}
 use native.Mathlib.Omega.{arith}
 use Rattle.std.proofs.Common.{le-leb, lt-ltb, le-ltb}
 use Rattle.std.proofs.lemmas.Bool.{lt-leb}
-use Rattle.prelude.specs.declared.Offset.{Offset}
-use Rattle.prelude.specs.declared.Offset.TheVariants.{None, At}
 use Rattle.prelude.specs.Pick.{pick}
 use Rattle.sort.specs.Order.{total}
 use Rattle.sort.specs.Laws.Sorted.{le-or-lt}
@@ -16,7 +14,7 @@ use Rattle.blocks.specs.Laws.Measure.{Additive, of_block, measure-kept}
 use Rattle.blocks.specs.Measure.{of_run, of_span}
 use Rattle.blocks.specs.Spans.{Span}
 use Rattle.blocks.specs.Walk.{blocks_of}
-use Rattle.blocks.specs.Bits.{InBlock, InPlaced, InRun, InSpan, NoSharedBit, Some}
+use Rattle.blocks.specs.Bits.{InBlock, InPlaced, InRun, InSpan, NoSharedBit, SomeElement}
 
 -- 1 for a run that has the bit, 0 for another.
 abbrev pub covers : ℕ → ℕ → ℕ → ℕ
@@ -68,7 +66,7 @@ pub record Counts {A : Type 0} (In : ℕ → A → Type 0) (count : ℕ → A �
 
 -- Such a count, added up over a list: some element has the bit, and no two do.
 module _ {A : Type 0} (In : ℕ → A → Type 0) (count : ℕ → A → ℕ) (c : Counts In count) where
-  pub some-counted : (bit : ℕ) (l : List A) → Some (In bit) l → 1 ≤ total (count bit) l
+  pub some-counted : (bit : ℕ) (l : List A) → SomeElement (In bit) l → 1 ≤ total (count bit) l
   unfolding total
   some-counted bit [] h = absurd (Memᴰ.not-nil h.1)
   some-counted bit (b ∷ l) h = ⊎_elim
@@ -76,7 +74,7 @@ module _ {A : Type 0} (In : ℕ → A → Type 0) (count : ℕ → A → ℕ) (c
       (λ t. let k = some-counted bit l (h.0, t, h.2) in omega arith)
       (Memᴰ.cases_cons h.1)
 
-  pub some-is-in : (bit : ℕ) (l : List A) → 1 ≤ total (count bit) l → Some (In bit) l
+  pub some-is-in : (bit : ℕ) (l : List A) → 1 ≤ total (count bit) l → SomeElement (In bit) l
   unfolding total
   some-is-in bit [] h = absurd (omega arith)
   some-is-in bit (b ∷ l) h = ⊎_elim
@@ -109,17 +107,17 @@ blocks-count = record {
   is-in = λ bit b. covers-is-in bit b.origin b.size;
 }
 
-placed-few : (bit : ℕ) (o : Offset) (size : ℕ) → of_run (covers bit) o size ≤ 1
+placed-few : (bit : ℕ) (o : Option ℕ) (size : ℕ) → of_run (covers bit) o size ≤ 1
 placed-few bit None size = omega arith
-placed-few bit (At o) size = covers-few bit o size
+placed-few bit (Some o) size = covers-few bit o size
 
-placed-counted : (bit : ℕ) (o : Offset) (size : ℕ) → InPlaced bit o size → 1 ≤ of_run (covers bit) o size
+placed-counted : (bit : ℕ) (o : Option ℕ) (size : ℕ) → InPlaced bit o size → 1 ≤ of_run (covers bit) o size
 placed-counted bit None size h = absurd h
-placed-counted bit (At o) size h = rw (covers-in bit o size h) (omega arith)
+placed-counted bit (Some o) size h = rw (covers-in bit o size h) (omega arith)
 
-placed-is-in : (bit : ℕ) (o : Offset) (size : ℕ) → 1 ≤ of_run (covers bit) o size → InPlaced bit o size
+placed-is-in : (bit : ℕ) (o : Option ℕ) (size : ℕ) → 1 ≤ of_run (covers bit) o size → InPlaced bit o size
 placed-is-in bit None size h = absurd (omega arith)
-placed-is-in bit (At o) size h = covers-is-in bit o size h
+placed-is-in bit (Some o) size h = covers-is-in bit o size h
 
 pub spans-count : Counts InSpan (λ bit s. of_span (covers bit) s)
 spans-count = record {

@@ -1,8 +1,6 @@
 -- Laws that Theorems/Count rests on.
-use Rattle.std.specs.Prelude.{Bool, true, false, List, [], ◌∷◌, ℕ, ◌+◌, ◌≤◌, eqb, length}
+use Rattle.std.specs.Prelude.{Bool, true, false, List, [], ◌∷◌, ℕ, ◌+◌, ◌≤◌, eqb, length, Option, None, Some}
 use Rattle.std.proofs.Common.{arith, length-append}
-use Rattle.prelude.specs.declared.Offset.{Offset}
-use Rattle.prelude.specs.declared.Offset.TheVariants.{None, At}
 use Rattle.prelude.specs.Pick.{pick}
 use Rattle.blocks.specs.declared.Block.{Block}
 use Rattle.blocks.specs.Spans.{Span, spans_of}
@@ -16,9 +14,9 @@ kept-few b = go (eqb b.size 0)
     go false = omega arith
 
 -- A span makes at most one block more of what ran before it.
-step-few : (b : Block) (o : Offset) (size : ℕ) → length (closed b o) + length (kept (joined b o size)) ≤ length (kept b) + 1
+step-few : (b : Block) (o : Option ℕ) (size : ℕ) → length (closed b o) + length (kept (joined b o size)) ≤ length (kept b) + 1
 step-few b None size = omega arith
-step-few b (At o) size = go (eqb o (end_of b))
+step-few b (Some o) size = go (eqb o (end_of b))
   where
     go : (t : Bool) → length (pick t [] (kept b)) + length (kept (pick t (block b.origin (b.size + size)) (block o size))) ≤ length (kept b) + 1
     go true = omega (arith, kept-few (block b.origin (b.size + size)))

@@ -1,5 +1,5 @@
 -- Laws that Theorems/Measure rests on.
-use Rattle.std.specs.Prelude.{◌≡◌, ℕ, ◌+◌, Bool}
+use Rattle.std.specs.Prelude.{◌≡◌, ℕ, ◌+◌, Bool, Option, None, Some}
 use Rattle.std.proofs.Math.Path.{refl, sym}
 use Rattle.std.proofs.Common.{◌∙◌, zero-add, eqb-true}
 use mathlib.Core.List.{List, [], ◌∷◌, ◌++◌}
@@ -7,8 +7,6 @@ use Rattle.std.proofs.Math.Nat.{add-zero}
 use native.Mathlib.Omega.{arith}
 use Rattle.std.proofs.Math.Dec.{eqb}
 use Rattle.std.proofs.Math.Bool.{true, false}
-use Rattle.prelude.specs.declared.Offset.{Offset}
-use Rattle.prelude.specs.declared.Offset.TheVariants.{None, At}
 use Rattle.prelude.specs.Pick.{pick}
 use Rattle.sort.specs.Order.{total}
 use Rattle.sort.proofs.Order.{sorted-keeps-totals}
@@ -40,10 +38,10 @@ module _ (m : ℕ → ℕ → ℕ) (a : Additive m) where
       go false e = add-zero (of_block m b)
 
   -- what a span closes and what runs on after it, against the block that ran before it and the span
-  step_keeps : (b : Block) (o : Offset) (size : ℕ) → total (of_block m) (closed b o) + of_block m (joined b o size) ≡ of_block m b + of_run m o size
+  step_keeps : (b : Block) (o : Option ℕ) (size : ℕ) → total (of_block m) (closed b o) + of_block m (joined b o size) ≡ of_block m b + of_run m o size
   unfolding total
   step_keeps b None size = omega arith
-  step_keeps b (At o) size = go (eqb o (end_of b)) refl
+  step_keeps b (Some o) size = go (eqb o (end_of b)) refl
     where
       go : (t : Bool) → eqb o (end_of b) ≡ t
           → total (of_block m) (pick t [] (kept b)) + of_block m (pick t (block b.origin (b.size + size)) (block o size)) ≡ of_block m b + m o size

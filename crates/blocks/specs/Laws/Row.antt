@@ -5,7 +5,7 @@ use Rattle.std.proofs.Common.{⊎_elim, le_refl, arith}
 use Rattle.sort.specs.Theorems.Order.{NoneBelow, Ascending}
 use Rattle.sort.specs.Laws.Sorted.{le-or-lt}
 use Rattle.blocks.specs.declared.Block.{Block}
-use Rattle.blocks.specs.Bits.{InBlock, Some, NoSharedBit}
+use Rattle.blocks.specs.Bits.{InBlock, SomeElement, NoSharedBit}
 use Rattle.blocks.specs.Rising.{origin_of}
 use Rattle.blocks.specs.Walk.{end_of}
 
@@ -15,7 +15,7 @@ InARow (b ∷ l) = NoneBelow origin_of (end_of b) l × InARow l
 
 -- a block that starts no lower than b, is not empty and shares no bit with b starts no lower than b ends
 ends-before : (b : Block) (l : List Block) → NoneBelow origin_of b.origin l → ((x : Block) → Memᴰ x l → 0 < x.size)
-    → ((bit : ℕ) → InBlock bit b → Some (InBlock bit) l → ⊥)
+    → ((bit : ℕ) → InBlock bit b → SomeElement (InBlock bit) l → ⊥)
     → NoneBelow origin_of (end_of b) l
 ends-before b [] h k s = tt
 ends-before b (c ∷ l) h k s = (

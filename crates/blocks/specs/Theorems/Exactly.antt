@@ -1,5 +1,5 @@
 -- When a call of `get_blocks` is refused, and what it leaves: in document 01's words, of every outcome that meets its contract.
-use Rattle.std.specs.Prelude.{◌≡◌, Bool, true, false, List, ◌⊎◌, ◌↔◌, ℕ, ◌≤◌, ◌<◌, leb, length, get_or}
+use Rattle.std.specs.Prelude.{◌≡◌, Bool, true, false, List, ◌⊎◌, ◌↔◌, ℕ, ◌≤◌, ◌<◌, leb, length, get_or, Result}
 use Rattle.std.proofs.Common.{sym, ◌∙◌, inl, inr, ⊎_elim, arith, le-leb, leb-true, leb-false}
 use Rattle.std.proofs.lemmas.Bool.{lt-leb}
 use Rattle.std.proofs.lemmas.List.{length-map}
@@ -7,9 +7,9 @@ use Rattle.prelude.specs.declared.Place.{Place}
 use Rattle.prelude.specs.declared.Place.TheVariants.{One}
 use Rattle.prelude.specs.Laws.Bools.{either, clash}
 use Rattle.prelude.specs.Told.{gives, refuses}
+use Rattle.prelude.specs.declared.Refusal.{Refusal}
 use Rattle.sort.specs.Laws.Sorted.{le-or-lt}
 use Rattle.blocks.specs.declared.Block.{Block}
-use Rattle.blocks.specs.declared.Blocks.{Blocks}
 use Rattle.blocks.specs.Acceptable.{WellLent}
 use Rattle.blocks.specs.Theorems.Acceptable.{acceptable-exactly}
 use Rattle.blocks.specs.Outcome.{origins, sizes, over, room_for, ToldBy, Contract}
@@ -41,7 +41,7 @@ module _ (blocks : List Block) (os ss : List ℕ) where
         h,
   )
 
-module _ (words lengths os ss : List ℕ) (r : Blocks) (os₁ ss₁ : List ℕ) (c : Contract words lengths os ss r os₁ ss₁) where
+module _ (words lengths os ss : List ℕ) (r : Result ℕ Refusal) (os₁ ss₁ : List ℕ) (c : Contract words lengths os ss r os₁ ss₁) where
   abbrev made : List Block
   made = blocks_of (spans_of words lengths)
 

@@ -1,5 +1,5 @@
 -- Laws that Theorems/Reached rests on.
-use Rattle.std.specs.Prelude.{◌≡◌, refl, ℕ, ◌≤◌}
+use Rattle.std.specs.Prelude.{◌≡◌, refl, ℕ, ◌≤◌, Err}
 use Rattle.std.proofs.Common.{arith}
 use Rattle.prelude.specs.Refusals.{number_of, place_of}
 use Rattle.prelude.specs.Told.{Told, refuses, told_refusal}
@@ -9,8 +9,7 @@ use Rattle.prelude.specs.declared.Refusal.{Refusal}
 use Rattle.prelude.specs.declared.Refusal.TheVariants.{BankCount, BankNumber, BanksOverlap, Malformed, PositionPast, LabelOffBoundary, Unresolved, DefaultBank}
 use Rattle.prelude.specs.declared.Refusal.TheVariants.{PastBank, NoOutput, Overlap, StoreFull, TooShort}
 use Rattle.prelude.specs.declared.Refusal.TheVariants.{BadStore, BadPart, PartlyCovered, FillBitDropped, OffProfile}
-use Rattle.prelude.specs.declared.Verdict.{Verdict}
-use Rattle.prelude.specs.declared.Verdict.TheVariants.{Accepted, Refused as TurnedAway}
+use Rattle.prelude.specs.Verdict.{Verdict, Accepted}
 use Rattle.resolver.specs.Layout.{unless}
 use Rattle.resolver.specs.declared.Resolution.{Resolution}
 use Rattle.build_map.specs.Map.{node_of}
@@ -63,4 +62,4 @@ told-as why e f = rw (e, f)
 
 pub ran : (v : Verdict) (q : Resolution) → ((unless v q).passes ≡ 0 → ⊥) → (v ≡ Accepted) × (unless v q ≡ q)
 ran Accepted q h = (refl, refl)
-ran (TurnedAway why) q h = absurd (h refl)
+ran (Err why) q h = absurd (h refl)

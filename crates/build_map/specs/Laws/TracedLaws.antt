@@ -1,10 +1,9 @@
 -- How far visits go that are placed one after another: up to and with the first that is refused, or to the end.
-use Rattle.std.specs.Prelude.{◌≡◌, refl, Bool, List, ℕ, ◌+◌, ◌≤◌, ◌<◌, length}
+use Rattle.std.specs.Prelude.{◌≡◌, refl, Bool, List, ℕ, ◌+◌, ◌≤◌, ◌<◌, length, Err}
 use Rattle.std.proofs.Common.{sym, ap, ap₂, ◌∙◌, arith}
 use Rattle.prelude.specs.Laws.Bools.{unlike}
 use Rattle.prelude.specs.declared.Refusal.{Refusal}
-use Rattle.prelude.specs.declared.Verdict.{Verdict}
-use Rattle.prelude.specs.declared.Verdict.TheVariants.{Accepted, Refused}
+use Rattle.prelude.specs.Verdict.{Verdict, Accepted}
 use Rattle.iter.specs.declared.Lost.{Lost}
 use Rattle.nodes.specs.Lists.{Row}
 use Rattle.resolver.specs.Once.{Program}
@@ -29,7 +28,7 @@ traced-few closed vs = omega (arith, traced-nodes closed vs, walked-few closed (
 module _ (p : Program) (row : Row) (closed : Bool) where
   pub traced-stopped : (i : ℕ) (s : State) (why : Refusal) → i < length p.kinds → placed_all closed (visits_to p row i) ≡ holds s
       → placed_next closed (visit_at p row i) (holds s) ≡ stops why
-      → traced closed (visits p row) ≡ stopped_reach (Refused why) (i + 1)
+      → traced closed (visits p row) ≡ stopped_reach (Err why) (i + 1)
   traced-stopped i s why b held stop = let (whole, far) = stopped-at p row closed i s why b held stop in ap₂ traced_by far whole
 
   -- all nodes, none of which is refused
@@ -47,27 +46,27 @@ module _ (closed : Bool) (vs : List Visit) (bits spans : ℕ) (sums : List Lost)
       by (holds s) h = refl
       by (stops why) h = absurd (differ (sym h ∙ e))
         where
-          differ : Refused why ≡ Accepted → ⊥
+          differ : Err why ≡ Accepted → ⊥
           differ x = unlike cc
 
-  pub traced-refused : (why : Refusal) → r ≡ Refused why → stopped_reach (Refused why) (walked_all closed vs) ≡ traced closed vs
+  pub traced-refused : (why : Refusal) → r ≡ Err why → stopped_reach (Err why) (walked_all closed vs) ≡ traced closed vs
   traced-refused why e = by (placed_all closed vs) is
     where
       by : (q : Placed) → r ≡ (plan_by bits spans sums q).verdict
-          → stopped_reach (Refused why) (walked_all closed vs) ≡ traced_by (walked_all closed vs) q
+          → stopped_reach (Err why) (walked_all closed vs) ≡ traced_by (walked_all closed vs) q
       by (holds s) h = absurd (differ (sym h ∙ e))
         where
-          differ : Accepted ≡ Refused why → ⊥
+          differ : Accepted ≡ Err why → ⊥
           differ x = unlike cc
       by (stops w) h = ap (λ (x : Verdict). stopped_reach x (walked_all closed vs)) (sym e ∙ h)
 
   -- one that is refused is met
-  pub some-walked : (why : Refusal) → r ≡ Refused why → 1 ≤ walked_all closed vs
+  pub some-walked : (why : Refusal) → r ≡ Err why → 1 ≤ walked_all closed vs
   some-walked why e = by (placed_all closed vs) refl is
     where
       by : (q : Placed) → placed_all closed vs ≡ q → r ≡ (plan_by bits spans sums q).verdict → 1 ≤ walked_all closed vs
       by (holds s) f h = absurd (differ (sym h ∙ e))
         where
-          differ : Accepted ≡ Refused why → ⊥
+          differ : Accepted ≡ Err why → ⊥
           differ x = unlike cc
       by (stops w) f h = refused-walked closed vs w f

@@ -4,8 +4,8 @@ use Rattle.output.specs.Output.{Input, input, Lent, lent}
 use Rattle.build_paged.proofs.Laws.{verdict-is, says-no, says-yes}
 use Rattle.build_paged.proofs.build_in_profile.Goals as goal
 
-pub returns-in-Refused : goal.returns-in-Refused
-returns-in-Refused c =
+pub returns-in-Err : goal.returns-in-Err
+returns-in-Err c =
     let given : Input =
     input c.args.banks
     (lists c.args.kinds.now c.args.operands.now c.args.numbers.now c.args.states.now c.args.rows c.args.values.now)
@@ -13,10 +13,10 @@ returns-in-Refused c =
     let old : Lent =
     lent c.args.image.now c.args.addresses.now c.args.offsets.now c.args.sizes.now in
     says-no c.args.page (given) (old) (verdict-is c.args.page (given) c.check_profile-paged.ensures.answer)
-    c.in-Refused.is c.refused.ensures
+    c.in-Err.is c.refused.ensures
 
-pub returns-in-Accepted : goal.returns-in-Accepted
-returns-in-Accepted c =
+pub returns-in-Ok : goal.returns-in-Ok
+returns-in-Ok c =
     let given : Input =
     input c.args.banks
     (lists c.args.kinds.now c.args.operands.now c.args.numbers.now c.args.states.now c.args.rows c.args.values.now)
@@ -24,4 +24,4 @@ returns-in-Accepted c =
     let old : Lent =
     lent c.args.image.now c.args.addresses.now c.args.offsets.now c.args.sizes.now in
     says-yes c.args.page (given) (old) (verdict-is c.args.page (given) c.check_profile-paged.ensures.answer)
-    c.in-Accepted.is c.build_output.ensures
+    c.in-Ok.is c.build_output.ensures

@@ -1,6 +1,6 @@
 -- Laws that Theorems/Nineteen rests on.
 use Prim.Native.Nat.{ℕ, zero, suc, ◌+◌, ◌-◌, ◌*◌, ◌<◌}
-use Rattle.std.specs.Prelude.{◌≡◌, refl, Bool, true, false, ◌&&◌, List, [], ◌∷◌, eqb, ltb, length}
+use Rattle.std.specs.Prelude.{◌≡◌, refl, Bool, true, false, ◌&&◌, List, [], ◌∷◌, eqb, ltb, length, Err, Result, Ok}
 use Rattle.std.proofs.Common.{sym, subst, inl, inr}
 use native.Mathlib.Omega.{arith}
 use Rattle.prelude.specs.Pick.{pick}
@@ -9,13 +9,10 @@ use Rattle.prelude.specs.Told.{Told, gives, refuses, told_number}
 use Rattle.prelude.specs.declared.Place.TheVariants.{One}
 use Rattle.prelude.specs.declared.Refusal.{Refusal}
 use Rattle.prelude.specs.declared.Refusal.TheVariants.{Unresolved, DefaultBank, PastBank, NoOutput, Overlap, StoreFull}
-use Rattle.prelude.specs.declared.Verdict.{Verdict}
-use Rattle.prelude.specs.declared.Verdict.TheVariants.{Accepted, Refused}
+use Rattle.prelude.specs.Verdict.{Verdict, Accepted}
 use Rattle.bankdef.specs.Check.{check_of}
 use Rattle.bankdef.specs.Theorems.Refused.{decided}
 use Rattle.bankdef.specs.declared.Bankdefs.{Bankdefs}
-use Rattle.iter.specs.declared.Moved.{Moved}
-use Rattle.iter.specs.declared.Moved.TheVariants.{To, Refused as Stopped}
 use Rattle.iter.specs.declared.Pos.{Pos}
 use Rattle.resolver.proofs.Ends.{Ending, early, last, ends}
 use Rattle.resolver.specs.Layout.{unless, layout_of}
@@ -27,11 +24,7 @@ use Rattle.resolver.specs.Once.{Program, node, walk_to}
 use Rattle.resolver.specs.Passes.{program, row_of_pass, pass_at, last_of, resolution_of}
 use Rattle.resolver.specs.Laws.StepRefusals.{Refusable, step-refusals}
 use Rattle.resolver.specs.declared.Choices.{Choices}
-use Rattle.resolver.specs.declared.Pass.{Pass}
-use Rattle.resolver.specs.declared.Pass.TheVariants.{State, Refused as Failed}
 use Rattle.resolver.specs.declared.Resolution.{Resolution}
-use Rattle.resolver.specs.declared.Settled.{Settled}
-use Rattle.resolver.specs.declared.Settled.TheVariants.{At, Refused as Unsettled}
 use Rattle.overlap_checker.specs.State as store
 use Rattle.overlap_checker.specs.Folds.{state_after}
 use Rattle.overlap_checker.specs.Offers.{lacks_room}
@@ -56,7 +49,7 @@ either-low false v w a b = b
 
 first-low : (v w : Verdict) → number_is v < 17 → number_is w < 17 → number_is (first_of v w) < 17
 first-low Accepted w a b = b
-first-low (Refused why) w a b = a
+first-low (Err why) w a b = a
 
 -- what stops a walk
 stopped-low : {i : ℕ} {why : Refusal} → Refusable i why → number_of why < 17
@@ -65,9 +58,9 @@ stopped-low (inr e) = rw e (omega arith)
 
 -- ---- the passes
 
-abbrev pub settled_number : Settled → ℕ
-settled_number (At k) = 0
-settled_number (Unsettled why) = number_of why
+abbrev pub settled_number : Result ℕ Refusal → ℕ
+settled_number (Ok k) = 0
+settled_number (Err why) = number_of why
 
 module _ (banks : Bankdefs) (l : Lists) where
   met-low : (row : Row) (is_last : Bool) (i : ℕ) (why : Refusal) → StopsAt (program banks l) row is_last i why → number_of why < 17
@@ -75,18 +68,18 @@ module _ (banks : Bankdefs) (l : Lists) where
       stopped-low (step-refusals (def_at (program banks l) row i) (node (program banks l) row i) (walk_to (program banks l) row i) why e)
   met-low row is_last i why (inr e) = rw e.2 (omega arith)
 
-  pass-low : (n : ℕ) (is_last : Bool) (why : Refusal) → pass_at banks l n is_last ≡ Failed why → number_of why < 17
+  pass-low : (n : ℕ) (is_last : Bool) (why : Refusal) → pass_at banks l n is_last ≡ Err why → number_of why < 17
   pass-low n is_last why e =
       let m = first-met (program banks l) (row_of_pass l n) (row_of_pass l (n - 1)) (eqb n 1) is_last why e in
       met-low (row_of_pass l n) is_last m.0 why m.1.here
 
-  last-low : (k n : ℕ) (x : Pass) → pass_at banks l n true ≡ x → settled_number (last_of k x) < 17
-  last-low k n (State s) e = either (eqb s 2)
+  last-low : (k n : ℕ) (x : Result ℕ Refusal) → pass_at banks l n true ≡ x → settled_number (last_of k x) < 17
+  last-low k n (Ok s) e = either (eqb s 2)
     where
-      either : (t : Bool) → settled_number (pick t (Unsettled Unresolved) (At k)) < 17
+      either : (t : Bool) → settled_number (pick t (Err Unresolved) (Ok k)) < 17
       either true = omega arith
       either false = omega arith
-  last-low k n (Failed why) e = pass-low n true why e
+  last-low k n (Err why) e = pass-low n true why e
 
   resolution-low : (m : ℕ) → settled_number (resolution_of banks l m).settled < 17
   resolution-low m = from (ends (pass_at banks l) m)
@@ -97,7 +90,7 @@ module _ (banks : Bankdefs) (l : Lists) where
 
   unless-low : (v : Verdict) (r : Resolution) → number_is v < 17 → settled_number r.settled < 17 → settled_number (unless v r).settled < 17
   unless-low Accepted r a b = b
-  unless-low (Refused why) r a b = a
+  unless-low (Err why) r a b = a
 
   pub layout-low : (choices : Choices) → settled_number (layout_of banks l choices).settled < 17
   unfolding layout_of
@@ -114,8 +107,8 @@ unfolding tries
 offer-low s n [] = omega arith
 offer-low s n (e ∷ none) =
     let lacks = lacks_room (length s.intervals) (length s.marks) e.size in
-    either-low (meets s e) (Refused (Overlap (named_in s e).position (named_in s e).size)) (pick lacks (Refused (StoreFull n)) Accepted) (omega arith)
-    (either-low lacks (Refused (StoreFull n)) Accepted (omega arith) (omega arith))
+    either-low (meets s e) (Err (Overlap (named_in s e).position (named_in s e).size)) (pick lacks (Err (StoreFull n)) Accepted) (omega arith)
+    (either-low lacks (Err (StoreFull n)) Accepted (omega arith) (omega arith))
 
 module _ (closed : Bool) (s : store.State) (v : Visit) where
   checked-low : (at : Pos) → number_is (checked closed v.bank v.def v.node at v.out) < 17
@@ -123,11 +116,11 @@ module _ (closed : Bool) (s : store.State) (v : Visit) where
   checked-low at =
       let nowhere = is_written v.node && lacks_output v.out in
       let ends = ends_past v.def.size (at.position + size_of v.node) in
-      let eleven = pick nowhere (Refused (NoOutput v.node.index)) Accepted in
-      let ten = pick ends (Refused (PastBank v.node.index)) eleven in
-      either-low (uses_default closed v.bank) (Refused (DefaultBank v.node.index)) ten (omega arith)
-      (either-low ends (Refused (PastBank v.node.index)) eleven (omega arith)
-      (either-low nowhere (Refused (NoOutput v.node.index)) Accepted (omega arith) (omega arith)))
+      let eleven = pick nowhere (Err (NoOutput v.node.index)) Accepted in
+      let ten = pick ends (Err (PastBank v.node.index)) eleven in
+      either-low (uses_default closed v.bank) (Err (DefaultBank v.node.index)) ten (omega arith)
+      (either-low ends (Err (PastBank v.node.index)) eleven (omega arith)
+      (either-low nowhere (Err (NoOutput v.node.index)) Accepted (omega arith) (omega arith)))
 
   placing-low : (at : Pos) → number_is (placing closed v.bank v.def s v.node at v.out) < 17
   placing-low at =
@@ -144,10 +137,10 @@ module _ (p : Program) (row : Row) (closed : Bool) where
   visit-low : (s : store.State) (i : ℕ) → number_is (verdict_on closed s (visit_at p row i)) < 17
   visit-low s i = go (seen_at p row i) refl
     where
-      go : (seen : Moved) → seen_at p row i ≡ seen
+      go : (seen : Result Pos Refusal) → seen_at p row i ≡ seen
           → number_is (verdict_seen closed (visit_at p row i).bank (visit_at p row i).def s (visit_at p row i).node (visit_at p row i).out seen) < 17
-      go (To at) e = placing-low closed s (visit_at p row i) at
-      go (Stopped why) e = stopped-low (step-refusals (def_at p row i) (node p row i) (walk_to p row i) why e)
+      go (Ok at) e = placing-low closed s (visit_at p row i) at
+      go (Err why) e = stopped-low (step-refusals (def_at p row i) (node p row i) (walk_to p row i) why e)
 
   next_low : (i : ℕ) (q : Placed) → placed_number q < 17 → placed_number (placed_next closed (visit_at p row i) q) < 17
   next_low i (stops why) h = h
@@ -155,7 +148,7 @@ module _ (p : Program) (row : Row) (closed : Bool) where
     where
       go : (v : Verdict) (t : store.State) → number_is v < 17 → placed_number (placed_if v t) < 17
       go Accepted t a = omega arith
-      go (Refused why) t a = a
+      go (Err why) t a = a
 
   placed-low : (n : ℕ) → placed_number (placed_all closed (visits_to p row n)) < 17
   unfolding visits_to placed_from
@@ -181,9 +174,9 @@ row_low : (room : Room) (k bits spans : ℕ) (q : Placed) → placed_number q < 
 row_low room k bits spans (stops why) h = h
 row_low room k bits spans (holds s) h = room-low room k bits spans
 
-pub build-low : (b : Input) (room : Room) (s : Settled) → settled_number s < 17 → told_number (settled_told b room s) < 17
-build-low b room (Unsettled why) h = h
-build-low b room (At k) h =
+pub build-low : (b : Input) (room : Room) (s : Result ℕ Refusal) → settled_number s < 17 → told_number (settled_told b room s) < 17
+build-low b room (Err why) h = h
+build-low b room (Ok k) h =
     row_low room k (length_of (fill_of b) (items_of (visits_of b (passes_of b)))) (length (spans_of (visits_of b (passes_of b))))
     (placed_all (closed_of b) (visits_of b (passes_of b)))
     (placed-low (program b.banks b.lists) (row_of_pass b.lists (passes_of b)) (closed_of b) (length b.lists.kinds))

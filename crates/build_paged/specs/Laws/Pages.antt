@@ -1,16 +1,16 @@
 -- Laws that Theorems/Pages rests on.
-use Rattle.std.specs.Prelude.{ℕ, ◌+◌, ◌<◌, ◌≤◌, ◌≡◌, Bool, true, false, ◌&&◌, eqb, length}
+use Rattle.std.specs.Prelude.{ℕ, ◌+◌, ◌<◌, ◌≤◌, ◌≡◌, Bool, true, false, ◌&&◌, eqb, length, Err, Result, None, Some}
 use Rattle.std.proofs.Common.{sym, ap, ◌∙◌, arith, length-take}
 use Rattle.std.proofs.Math.ListN.{get_or-eq_default}
+use Rattle.iter.specs.declared.Pos.{Pos}
 use Rattle.prelude.specs.Laws.Bools.{unlike, or_right}
 use Rattle.prelude.specs.Pick.{pick}
 use Rattle.prelude.specs.Laws.Pick.{pick_true}
-use Rattle.prelude.specs.declared.Opt.TheVariants.{None, Some}
 use Rattle.prelude.specs.declared.Refusal.TheVariants.{DefaultBank, PastBank, NoOutput}
-use Rattle.prelude.specs.declared.Verdict.TheVariants.{Accepted as Fine, Refused}
+use Rattle.prelude.specs.Verdict.{Accepted}
+use Rattle.prelude.specs.declared.Refusal.{Refusal}
 use Rattle.bankdef.specs.Check.{no_bank, banks_of}
 use Rattle.bankdef.specs.declared.Bankdefs.{Bankdefs}
-use Rattle.iter.specs.declared.Moved.{Moved}
 use Rattle.nodes.specs.Kinds.{size_of}
 use Rattle.nodes.specs.Laws.Kinds.{written-adds}
 use Rattle.resolver.specs.Once.{bank_record}
@@ -28,21 +28,21 @@ use Rattle.build_profile.specs.Laws.RuleLaws.{both-kept}
 written-size : (v : Visit) → is_written v.node ≡ true → size_of v.node ≡ v.node.number
 written-size v w = pick_true v.node.number 0 (written-adds v.node.kind w)
 
-pub fits : (closed : Bool) (s : State) (v : Visit) → verdict_on closed s v ≡ Fine → is_written v.node ≡ true
+pub fits : (closed : Bool) (s : State) (v : Visit) → verdict_on closed s v ≡ Accepted → is_written v.node ≡ true
     → ends_past v.def.size (position_of v + v.node.number) ≡ false
 fits closed s v acc w =
     let n = v.node in
     let seen = seen-placing closed s v v.seen acc in
     let placed : is_placed n ≡ true = or_right (eqb n.kind 2) (is_offered n) (rw w) in
-    let all : tried closed v.bank v.def s n seen.0 v.out ≡ Fine =
-    sym (pick_true (tried closed v.bank v.def s n seen.0 v.out) Fine placed) ∙ seen.2 in
+    let all : tried closed v.bank v.def s n seen.0 v.out ≡ Accepted =
+    sym (pick_true (tried closed v.bank v.def s n seen.0 v.out) Accepted placed) ∙ seen.2 in
     let opened = sym (checked-opens closed v.bank v.def n seen.0 v.out)
     ∙ (both-kept (checked closed v.bank v.def n seen.0 v.out) (answered s n.index (offer_of v)) all).0 in
     let ends = ends_past v.def.size (seen.0.position + size_of n) in
-    let last = pick (is_written n && lacks_output v.out) (Refused (NoOutput n.index)) Fine in
-    let nine = passed (uses_default closed v.bank) (DefaultBank n.index) (pick ends (Refused (PastBank n.index)) last) opened in
+    let last = pick (is_written n && lacks_output v.out) (Err (NoOutput n.index)) Accepted in
+    let nine = passed (uses_default closed v.bank) (DefaultBank n.index) (pick ends (Err (PastBank n.index)) last) opened in
     let ten = (passed ends (PastBank n.index) last nine.1).0 in
-    let at : position_of v ≡ seen.0.position = ap (λ (m : Moved). (seen_pos m).position) seen.1 in
+    let at : position_of v ≡ seen.0.position = ap (λ (m : Result Pos Refusal). (seen_pos m).position) seen.1 in
     ap (ends_past v.def.size) (ap (λ (x : ℕ). x + n.number) at ∙ ap (λ (x : ℕ). seen.0.position + x) (sym (written-size v w))) ∙ ten
 
 never : {a : ℕ} → None ≡ Some a → ⊥

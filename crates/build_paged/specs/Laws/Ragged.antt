@@ -1,8 +1,7 @@
 -- Laws that Theorems/Ragged rests on.
 use Rattle.std.specs.Prelude.{◌≡◌, refl, Bool, true, false}
 use Rattle.std.specs.Int.Count.{ones, ones_in}
-use Rattle.prelude.specs.declared.Verdict.TheVariants.{Accepted}
-use Rattle.nodes.specs.Lists.{lists}
+use Rattle.prelude.specs.Verdict.{Accepted}
 use Rattle.resolver.specs.Passes.{first}
 use Rattle.build_profile.specs.Rules.{rules_of}
 use Rattle.build_profile.specs.Standing.{bank_before}

@@ -1,10 +1,8 @@
 -- A build in the profile is refused 19 exactly when a rule is broken: the ordinary build gives no 19.
-use Rattle.std.specs.Prelude.{ℕ, ◌<◌}
+use Rattle.std.specs.Prelude.{◌<◌}
 use Rattle.prelude.specs.Told.{told_number}
-use Rattle.output.specs.Output.{Input, Lent, Room, settled_of}
+use Rattle.output.specs.Output.{Input, Room, settled_of}
 use Rattle.output.specs.Output.{settled_told}
-use Rattle.output.specs.declared.Output.{Output}
-use Rattle.build_paged.specs.InProfile.{BuildsInProfile}
 use Rattle.build_paged.specs.Laws.Nineteen.{build-low, layout-low}
 
 -- The ordinary build is refused for no number from 17 on.

@@ -1,10 +1,8 @@
 -- Theorems about what Pages defines.
-use Rattle.std.specs.Prelude.{ℕ, ◌+◌, ◌-◌, ◌*◌, ◌%◌, ◌<◌, ◌≤◌, ◌≡◌, refl, true, false, ◌⊎◌, get_or}
+use Rattle.std.specs.Prelude.{ℕ, ◌+◌, ◌-◌, ◌*◌, ◌%◌, ◌<◌, ◌≤◌, ◌≡◌, refl, true, false, ◌⊎◌, get_or, Some, Option}
 use Rattle.std.proofs.Common.{sym, ap, ◌∙◌, inl, inr, ⊎_elim, arith, ltb-false}
 use mathlib.Core.List.{Memᴰ}
 use Rattle.std.proofs.Math.Nat.{add-mod, zero-mod}
-use Rattle.prelude.specs.declared.Opt.{Opt}
-use Rattle.prelude.specs.declared.Opt.TheVariants.{Some}
 use Rattle.bankdef.specs.Check.{no_bank, banks_of}
 use Rattle.bankdef.specs.Fill.{full_length}
 use Rattle.bankdef.specs.FillFacts.{Fills}
@@ -35,7 +33,7 @@ module _ (a : Accepted) (page : ℕ) (keeps : InProfile a.call.given.banks a.cal
       (visit-member (program_in a.call) (row_in a.call) (nodes_in a.call) n w.1) in
       let s = keeps.sizes v.bank (listed_by (banks_in a) v.bank (has-record (banks_in a) v.bank w.3 w.4)) w.3 w.4 in
       let ends : ends_past (Some s.0) (position_of v + v.node.number) ≡ false =
-      sym (ap (λ (o : Opt). ends_past o (position_of v + v.node.number)) s.1) ∙ fits (closed_in a.call) acc.0 v acc.1 w.2 in
+      sym (ap (λ (o : Option ℕ). ends_past o (position_of v + v.node.number)) s.1) ∙ fits (closed_in a.call) acc.0 v acc.1 w.2 in
       let at-is : x.at ≡ w.3 + position_of v = ap (λ (y : Item). y.at) w.5 in
       let size_is : x.size ≡ v.node.number = ap (λ (y : Item). y.size) w.5 in
       let low = ltb-false s.0 (position_of v + v.node.number) ends in

@@ -9,7 +9,7 @@ use Rattle.build_plan.proofs.plan_walk.Given as goal
 
 abbrev pub invariant-loop-i : goal.invariant-loop-i
 invariant-loop-i l = Going (program_with l.banks l.kinds l.operands l.first) (row_with l.numbers l.states) l.closed l.fill l.i l.walk
-    (store l.positions l.sizes l.stored.count l.marks l.stored.marks) l.sums
+    (store l.stored.positions l.stored.sizes l.stored.count l.stored.marks l.stored.mark_count) l.sums
 
 abbrev pub decreases-loop-i : goal.decreases-loop-i
 decreases-loop-i l = length l.kinds - l.i

@@ -1,5 +1,5 @@
 -- Laws that Theorems/PlacingLaws rests on.
-use Rattle.std.specs.Prelude.{◌≡◌, ◌⊎◌, ℕ, ◌<◌, eqb, take, drop}
+use Rattle.std.specs.Prelude.{◌≡◌, ◌⊎◌, ℕ, ◌<◌, eqb, take, drop, Err, Result, Ok, Option, None, Some}
 use Rattle.std.proofs.Math.Path.{refl}
 use Rattle.std.proofs.Common.{sym, ap, subst, ◌∙◌, inl, inr, ⊎_elim, arith, take-append-drop}
 use mathlib.Core.Bool.{Bool, true, false}
@@ -8,14 +8,9 @@ use Rattle.prelude.specs.Laws.Bools.{unlike, or_right}
 use Rattle.prelude.specs.Pick.{pick}
 use Rattle.prelude.specs.Laws.Pick.{pick_true}
 use Rattle.prelude.specs.declared.Refusal.{Refusal}
-use Rattle.prelude.specs.declared.Verdict.{Verdict}
-use Rattle.prelude.specs.declared.Verdict.TheVariants.{Accepted, Refused}
-use Rattle.prelude.specs.declared.Offset.{Offset}
-use Rattle.prelude.specs.declared.Offset.TheVariants.{None as Nowhere, At as Out}
+use Rattle.prelude.specs.Verdict.{Accepted, Verdict}
 use Rattle.nodes.specs.declared.Node.{Node}
 use Rattle.iter.specs.declared.Pos.{Pos}
-use Rattle.iter.specs.declared.Moved.{Moved}
-use Rattle.iter.specs.declared.Moved.TheVariants.{To, Refused as Stopped}
 use Rattle.nodes.specs.Lists.{first_of}
 use Rattle.overlap_checker.specs.declared.Entry.{Entry}
 use Rattle.overlap_checker.specs.Interval.{Covers}
@@ -36,20 +31,20 @@ use Rattle.build_plan.specs.PlacingLaws.{OfferedBit}
 
 -- ---- verdicts and tests
 
-pub refused-accepted : {r : Refusal} → Refused r ≡ Accepted → ⊥
+pub refused-accepted : {r : Refusal} → Err r ≡ Accepted → ⊥
 refused-accepted e = unlike cc
 
 pub stops-holds : {r : Refusal} {s : State} → stops r ≡ holds s → ⊥
 stops-holds e = unlike cc
 
 -- a case that would refuse was not taken
-pub passed : (b : Bool) (r : Refusal) (v : Verdict) → pick b (Refused r) v ≡ Accepted → (b ≡ false) × (v ≡ Accepted)
+pub passed : (b : Bool) (r : Refusal) (v : Verdict) → pick b (Err r) v ≡ Accepted → (b ≡ false) × (v ≡ Accepted)
 passed true r v e = absurd (refused-accepted e)
 passed false r v e = (refl, e)
 
 pub first-accepted : (v w : Verdict) → first_of v w ≡ Accepted → (v ≡ Accepted) × (w ≡ Accepted)
 first-accepted Accepted w e = (refl, e)
-first-accepted (Refused r) w e = absurd (refused-accepted e)
+first-accepted (Err r) w e = absurd (refused-accepted e)
 
 -- ---- visits placed one after another
 
@@ -73,7 +68,7 @@ module _ (closed : Bool) where
   if-holds : (v : Verdict) (s t : State) (l : List Visit) → placed_from closed (placed_if v s) l ≡ holds t
       → (v ≡ Accepted) × (placed_from closed (holds s) l ≡ holds t)
   if-holds Accepted s t l e = (refl, e)
-  if-holds (Refused why) s t l e = absurd (stops-holds (sym (stops-stay why l) ∙ e))
+  if-holds (Err why) s t l e = absurd (stops-holds (sym (stops-stay why l) ∙ e))
 
   first_holds : (s t : State) (v : Visit) (l : List Visit) → placed_from closed (holds s) (v ∷ l) ≡ holds t
       → (verdict_on closed s v ≡ Accepted) × (placed_from closed (holds (state_after s (offer_of v))) l ≡ holds t)
@@ -91,15 +86,15 @@ pub picked-some : {X : Type 0} (b : Bool) (l : List X) {x : X} → Memᴰ x (pic
 picked-some true l m = (refl, m)
 picked-some false l m = absurd (mathlib.Core.List.Memᴰ.not-nil m)
 
-pub seen-placing : (closed : Bool) (s : State) (v : Visit) (seen : Moved) → verdict_seen closed v.bank v.def s v.node v.out seen ≡ Accepted
-    → (at : Pos) × (seen ≡ To at) × (placing closed v.bank v.def s v.node at v.out ≡ Accepted)
-seen-placing closed s v (To at) e = (at, refl, e)
-seen-placing closed s v (Stopped why) e = absurd (refused-accepted e)
+pub seen-placing : (closed : Bool) (s : State) (v : Visit) (seen : Result Pos Refusal) → verdict_seen closed v.bank v.def s v.node v.out seen ≡ Accepted
+    → (at : Pos) × (seen ≡ Ok at) × (placing closed v.bank v.def s v.node at v.out ≡ Accepted)
+seen-placing closed s v (Ok at) e = (at, refl, e)
+seen-placing closed s v (Err why) e = absurd (refused-accepted e)
 
 -- a visit makes one offer at most
-one-bits : (out : Offset) (n : Node) (a b : Entry) → Memᴰ a (bits_at out n) → Memᴰ b (bits_at out n) → a ≡ b
-one-bits Nowhere n a b ma mb = absurd (mathlib.Core.List.Memᴰ.not-nil ma)
-one-bits (Out o) n a b ma mb = mathlib.Core.List.Memᴰ.eq_of_singleton ma ∙ sym (mathlib.Core.List.Memᴰ.eq_of_singleton mb)
+one-bits : (out : Option ℕ) (n : Node) (a b : Entry) → Memᴰ a (bits_at out n) → Memᴰ b (bits_at out n) → a ≡ b
+one-bits None n a b ma mb = absurd (mathlib.Core.List.Memᴰ.not-nil ma)
+one-bits (Some o) n a b ma mb = mathlib.Core.List.Memᴰ.eq_of_singleton ma ∙ sym (mathlib.Core.List.Memᴰ.eq_of_singleton mb)
 
 pub one-offer : (v : Visit) (a b : Entry) → Memᴰ a (offer_of v) → Memᴰ b (offer_of v) → a ≡ b
 one-offer v a b ma mb =
@@ -108,10 +103,10 @@ one-offer v a b ma mb =
 pub offer-is : (v : Visit) (e : Entry) → Memᴰ e (offer_of v) → offer_of v ≡ e ∷ []
 offer-is v e m = go v.out (is_offered v.node) m
   where
-    go : (out : Offset) (b : Bool) → Memᴰ e (pick b (bits_at out v.node) []) → pick b (bits_at out v.node) [] ≡ e ∷ []
+    go : (out : Option ℕ) (b : Bool) → Memᴰ e (pick b (bits_at out v.node) []) → pick b (bits_at out v.node) [] ≡ e ∷ []
     go out false k = absurd (mathlib.Core.List.Memᴰ.not-nil k)
-    go Nowhere true k = absurd (mathlib.Core.List.Memᴰ.not-nil k)
-    go (Out o) true k = ap (λ (f : Entry). f ∷ []) (sym (mathlib.Core.List.Memᴰ.eq_of_singleton k))
+    go None true k = absurd (mathlib.Core.List.Memᴰ.not-nil k)
+    go (Some o) true k = ap (λ (f : Entry). f ∷ []) (sym (mathlib.Core.List.Memᴰ.eq_of_singleton k))
 
 -- every offer of an accepted visit was answered, and accepted
 pub offer-accepted : (closed : Bool) (s : State) (v : Visit) → verdict_on closed s v ≡ Accepted → (e : Entry) → Memᴰ e (offer_of v)

@@ -1,12 +1,11 @@
 -- Laws that proofs about Plan need.
-use Rattle.std.specs.Prelude.{◌≡◌, refl, Bool, List, ℕ, ◌<◌, length, get_or}
+use Rattle.std.specs.Prelude.{◌≡◌, refl, Bool, List, ℕ, ◌<◌, length, get_or, Err}
 use Rattle.std.proofs.Common.{sym, ap, ◌∙◌}
 use Rattle.std.proofs.lemmas.List.{length-map}
 use Rattle.std.proofs.Math.ListN.{get_or-map}
 use Rattle.prelude.specs.Laws.Bools.{unlike}
 use Rattle.prelude.specs.Limits.{max_banks}
-use Rattle.prelude.specs.declared.Verdict.{Verdict}
-use Rattle.prelude.specs.declared.Verdict.TheVariants.{Accepted, Refused}
+use Rattle.prelude.specs.Verdict.{Verdict, Accepted}
 use Rattle.bitvec.specs.Lists.{list_of}
 use Rattle.bitvec.specs.Laws.Lists.{length-list_of, get_d-list_of}
 use Rattle.iter.specs.Laws.Crossing.{any-default}
@@ -36,7 +35,7 @@ get_d-of-banks f bank low =
 
 abbrev pub verdict_placed : Placed → Verdict
 verdict_placed (holds stored) = Accepted
-verdict_placed (stops why) = Refused why
+verdict_placed (stops why) = Err why
 
 -- ---- a plan by its parts
 

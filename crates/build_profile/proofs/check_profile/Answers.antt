@@ -7,16 +7,16 @@ pub pages_of-requires : goal.pages_of-requires
 pages_of-requires c =
     let given : Lists =
     lists c.args.kinds.now c.args.operands.now c.args.numbers.now c.args.states.now c.args.rows c.args.values.now in
-    yes-shows c.args.banks (given) c.args.choices.fill c.args.page c.judge-verdict.ensures c.in-Accepted.is
+    yes-shows c.args.banks (given) c.args.choices.fill c.args.page c.judge-verdict.ensures c.in-Ok.is
 
-pub returns-in-Refused : goal.returns-in-Refused
-returns-in-Refused c =
+pub returns-in-Err : goal.returns-in-Err
+returns-in-Err c =
     let given : Lists =
     lists c.args.kinds.now c.args.operands.now c.args.numbers.now c.args.states.now c.args.rows c.args.values.now in
-    says-no c.args.banks (given) c.args.choices.fill c.args.page c.judge-verdict.ensures c.in-Refused.is
+    says-no c.args.banks (given) c.args.choices.fill c.args.page c.judge-verdict.ensures c.in-Err.is
 
-pub returns-in-Accepted : goal.returns-in-Accepted
-returns-in-Accepted c =
+pub returns-in-Ok : goal.returns-in-Ok
+returns-in-Ok c =
     let given : Lists =
     lists c.args.kinds.now c.args.operands.now c.args.numbers.now c.args.states.now c.args.rows c.args.values.now in
-    says-yes c.args.banks (given) c.args.choices.fill c.args.page c.judge-verdict.ensures c.in-Accepted.is c.pages_of.ensures
+    says-yes c.args.banks (given) c.args.choices.fill c.args.page c.judge-verdict.ensures c.in-Ok.is c.pages_of.ensures

@@ -1,5 +1,5 @@
 -- The banks so far have their pages, and the rest none.
-use Prim.Native.Nat.{ℕ, ◌-◌, ◌≤◌}
+use Prim.Native.Nat.{ℕ, ◌-◌}
 use mathlib.Core.Path.{◌≡◌}
 use mathlib.Core.List.{List, ◌++◌, map}
 use lib.ListN.{take, replicate}
@@ -12,7 +12,4 @@ abbrev pub up_to : ℕ → Bankdefs → ℕ → List ℕ
 up_to page banks i = map (pages_in page) (take i banks.defs) ++ replicate (16 - i) no_pages
 
 abbrev pub invariant-loop-i : goal.invariant-loop-i
-invariant-loop-i l = (l.i ≤ l.banks.len) × (l.pages ≡ up_to l.page l.banks l.i)
-
-abbrev pub decreases-loop-i : goal.decreases-loop-i
-decreases-loop-i l = l.banks.len - l.i
+invariant-loop-i l = l.pages ≡ up_to l.page l.fn.banks l.i

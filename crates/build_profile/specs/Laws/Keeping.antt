@@ -1,9 +1,7 @@
 -- Laws that Theorems/Keeping rests on.
-use Rattle.std.specs.Prelude.{ℕ, ◌%◌, ◌<◌, ◌≡◌, refl, Bool, true, not, ◌||◌, ◌⊎◌, ◌↔◌, eqb, get_or}
+use Rattle.std.specs.Prelude.{ℕ, ◌%◌, ◌<◌, ◌≡◌, refl, Bool, true, not, ◌||◌, ◌⊎◌, ◌↔◌, eqb, get_or, None, Some, Option}
 use Rattle.std.proofs.Common.{inl, inr, eqb-true, eq-eqb}
 use Rattle.prelude.specs.Laws.Bools.{either, unlike, or-told}
-use Rattle.prelude.specs.declared.Opt.{Opt}
-use Rattle.prelude.specs.declared.Opt.TheVariants.{None, Some}
 use Rattle.nodes.specs.Lists.{Lists}
 use Rattle.build_profile.specs.RuleLaws.{Every}
 use Rattle.build_profile.specs.Rules.{on_page, whole_pages, unit_kept, number_in}
@@ -16,11 +14,11 @@ never e = unlike cc
 pub of_some : {a b : ℕ} → Some a ≡ Some b → a ≡ b
 of_some e = cc
 
-pub page-test : (page : ℕ) (o : Opt) → (on_page page o ≡ true) ↔ ((offset : ℕ) → o ≡ Some offset → offset % page ≡ 0)
+pub page-test : (page : ℕ) (o : Option ℕ) → (on_page page o ≡ true) ↔ ((offset : ℕ) → o ≡ Some offset → offset % page ≡ 0)
 page-test page None = (λ e x q. absurd (never q), λ h. refl)
 page-test page (Some b) = (λ e x q. rw (← (of_some q)) (eqb-true (b % page) 0 e), λ h. eq-eqb (b % page) 0 (h b refl))
 
-pub size-test : (page : ℕ) (o s : Opt) → (whole_pages page o s ≡ true) ↔ ((offset : ℕ) → o ≡ Some offset → (size : ℕ) × (s ≡ Some size) × (size % page ≡ 0))
+pub size-test : (page : ℕ) (o s : Option ℕ) → (whole_pages page o s ≡ true) ↔ ((offset : ℕ) → o ≡ Some offset → (size : ℕ) × (s ≡ Some size) × (size % page ≡ 0))
 size-test page None s = (λ e x q. absurd (never q), λ h. refl)
 size-test page (Some b) None =
     (λ e. unlike cc, λ h. absurd (never (h b refl).1))

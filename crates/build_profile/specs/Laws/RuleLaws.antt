@@ -1,11 +1,10 @@
 -- Laws that proofs about RuleLaws need.
-use Rattle.std.specs.Prelude.{ℕ, ◌<◌, ◌≡◌, refl, Bool, true, false, not, ◌↔◌}
+use Rattle.std.specs.Prelude.{ℕ, ◌<◌, ◌≡◌, refl, Bool, true, false, not, ◌↔◌, Err}
 use Rattle.std.proofs.Common.{arith, le-leb, leb-true, leb-false}
 use Rattle.std.proofs.lemmas.Bool.{lt-leb, not-true, not-false}
 use Rattle.prelude.specs.declared.Refusal.TheVariants.{OffProfile}
-use Rattle.prelude.specs.declared.Verdict.{Verdict}
-use Rattle.prelude.specs.declared.Verdict.TheVariants.{Accepted, Refused}
 use Rattle.prelude.specs.Laws.Bools.{either, clash}
+use Rattle.prelude.specs.Verdict.{Accepted, Verdict}
 use Rattle.resolver.specs.Laws.Least.{first-least, first_found, first-from, first-at}
 use Rattle.nodes.specs.Lists.{first_of}
 use Rattle.build_profile.specs.Rules.{first_broken, all, ruled}
@@ -34,7 +33,7 @@ module _ (keeps : ℕ → Bool) where
     pub not-all : all keeps n ≡ false
     not-all = lt-leb n (first_broken keeps n) (omega (arith, first-is))
 
-    pub ruled-broken : (rule : ℕ) → ruled rule keeps n ≡ Refused (OffProfile rule i)
+    pub ruled-broken : (rule : ℕ) → ruled rule keeps n ≡ Err (OffProfile rule i)
     ruled-broken rule = rw (not-all, first-is)
 
   pub ruled-kept : (rule n : ℕ) → KeptTo n → ruled rule keeps n ≡ Accepted
@@ -59,11 +58,11 @@ module _ (keeps : ℕ → Bool) where
 
 pub both-kept : (v w : Verdict) → first_of v w ≡ Accepted → (v ≡ Accepted) × (w ≡ Accepted)
 both-kept Accepted w e = (refl, e)
-both-kept (Refused why) w e = (e, cc)
+both-kept (Err why) w e = (e, cc)
 
 pub data Ruling (rule : ℕ) (P : ℕ → Type 0) (n : ℕ) : Verdict → Type 0 where
   kept : Every P n → Ruling rule P n Accepted
-  broken : {k : ℕ} → First P n k → Ruling rule P n (Refused (OffProfile rule k))
+  broken : {k : ℕ} → First P n k → Ruling rule P n (Err (OffProfile rule k))
 
 module _ (keeps : ℕ → Bool) (P : ℕ → Type 0) (tells : (k : ℕ) → (keeps k ≡ true) ↔ P k) where
   every-exactly : (n : ℕ) → (all keeps n ≡ true) ↔ Every P n
@@ -91,5 +90,5 @@ module _ (keeps : ℕ → Bool) (P : ℕ → Type 0) (tells : (k : ℕ) → (kee
   pub rule-kept : (rule n : ℕ) → Every P n → ruled rule keeps n ≡ Accepted
   rule-kept rule n every = ruled-kept keeps rule n (λ k h. (tells k).1 (every k h))
 
-  pub rule-broken : (rule n k : ℕ) → First P n k → ruled rule keeps n ≡ Refused (OffProfile rule k)
+  pub rule-broken : (rule n k : ℕ) → First P n k → ruled rule keeps n ≡ Err (OffProfile rule k)
   rule-broken rule n k f = ruled-broken keeps n k f.listed (λ j h. (tells j).1 (f.before j h)) (fails k f.breaks) rule

@@ -1,10 +1,8 @@
 -- Theorems about what Keeping defines.
-use Rattle.std.specs.Prelude.{ℕ, ◌%◌, ◌≡◌, refl, Bool, true, ◌↔◌, eqb, get_or}
+use Rattle.std.specs.Prelude.{ℕ, ◌%◌, ◌≡◌, refl, Bool, true, ◌↔◌, eqb, get_or, Option, Some, None}
 use Rattle.std.proofs.Common.{eqb-true, eq-eqb}
 use Rattle.std.proofs.lemmas.Bool.{eqb-false}
 use Rattle.prelude.specs.Laws.Bools.{either}
-use Rattle.prelude.specs.declared.Opt.{Opt}
-use Rattle.prelude.specs.declared.Opt.TheVariants.{None, Some}
 use Rattle.bankdef.specs.declared.Bankdefs.{Bankdefs}
 use Rattle.nodes.specs.Lists.{Lists}
 use Rattle.resolver.specs.Once.{bank_record}
@@ -22,7 +20,7 @@ aligned-exactly a = (
   λ h. either (eqb a 0) (λ t. rw t) (λ t. rw t ((one-bit-exactly a).1 (h (eqb-false a 0 t)))),
 )
 
-bank-test : (o : Opt) → (bank_aligned o ≡ true) ↔ ((a : ℕ) → o ≡ Some a → Aligned a)
+bank-test : (o : Option ℕ) → (bank_aligned o ≡ true) ↔ ((a : ℕ) → o ≡ Some a → Aligned a)
 bank-test None = (λ e a q. absurd (never q), λ h. refl)
 bank-test (Some b) = (λ e a q. rw (← (of_some q)) ((aligned-exactly b).0 e), λ h. (aligned-exactly b).1 (h b refl))
 

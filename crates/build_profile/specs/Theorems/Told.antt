@@ -1,8 +1,7 @@
 -- Theorems about what Told defines.
-use Rattle.std.specs.Prelude.{ℕ, ◌≡◌}
+use Rattle.std.specs.Prelude.{ℕ, ◌≡◌, Err}
 use Rattle.std.proofs.Math.Path.{refl}
-use Rattle.prelude.specs.declared.Verdict.{Verdict}
-use Rattle.prelude.specs.declared.Verdict.TheVariants.{Accepted, Refused}
+use Rattle.prelude.specs.Verdict.{Verdict, Accepted}
 use Rattle.bankdef.specs.Check.{check_of}
 use Rattle.bankdef.specs.declared.Bankdefs.{Bankdefs}
 use Rattle.resolver.specs.Layout.{Checked}
@@ -21,12 +20,12 @@ module _ (banks : Bankdefs) (l : Lists) (fill page : ℕ) where
   by-lists : check_of banks ≡ Accepted → (v : Verdict) → lists_of banks.len l fill ≡ v
       → ProfileTold banks l fill page (told_paged (paged_by (first_of v (rules_of banks l page)) page banks))
   by-lists t Accepted e = by-rules (record { table = t; lists = e }) (judged banks l page)
-  by-lists t (Refused why) e = lists why t e
+  by-lists t (Err why) e = lists why t e
 
   by-table : (v : Verdict) → check_of banks ≡ v
       → ProfileTold banks l fill page (told_paged (paged_by (first_of v (first_of (lists_of banks.len l fill) (rules_of banks l page))) page banks))
   by-table Accepted e = by-lists e (lists_of banks.len l fill) refl
-  by-table (Refused why) e = table why e
+  by-table (Err why) e = table why e
 
   -- What is told of every layout.
   pub profile-told : ProfileTold banks l fill page (told_paged (profile_of banks l fill page))

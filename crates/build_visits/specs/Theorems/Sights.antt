@@ -1,10 +1,10 @@
 -- Theorems about what Sights defines.
-use Rattle.std.specs.Prelude.{ℕ, ◌+◌, ◌<◌, ◌≡◌, set, length}
+use Rattle.std.specs.Prelude.{ℕ, ◌+◌, ◌<◌, ◌≡◌, set, length, Result, Ok, Err, Option}
 use Rattle.std.proofs.Common.{arith, subst, ◌∙◌}
 use Rattle.std.proofs.Math.Path.{refl, sym, ap}
 use Rattle.std.proofs.Math.ListN.{get_or}
 use Rattle.prelude.specs.Limits.{max_banks}
-use Rattle.prelude.specs.declared.Offset.{Offset}
+use Rattle.prelude.specs.declared.Refusal.{Refusal}
 use Rattle.bankdef.specs.declared.Bankdef.{Bankdef}
 use Rattle.iter.specs.Address.{output_position}
 use Rattle.iter.specs.Crossing.{crossing_of}
@@ -12,8 +12,6 @@ use Rattle.iter.specs.Pace.{Paces, seen_in, seen_by}
 use Rattle.iter.specs.Step.{no_lost, lost_after}
 use Rattle.iter.specs.declared.Crossing.{Crossing}
 use Rattle.iter.specs.declared.Lost.{Lost}
-use Rattle.iter.specs.declared.Moved.{Moved}
-use Rattle.iter.specs.declared.Moved.TheVariants.{To, Refused as Stopped}
 use Rattle.nodes.specs.declared.Node.{Node}
 use Rattle.iter.specs.declared.Paced.{Paced}
 use Rattle.iter.specs.declared.Pos.{Pos}
@@ -32,9 +30,9 @@ paced-position d at n e =
     ∙ alike (crossing_of d at n).seen
     ∙ sym (ap (λ (x : Paced). x.seen.position) e.0)
   where
-    alike : (x : Moved) → (seen_pos x).position ≡ (seen_in x).position
-    alike (To p) = refl
-    alike (Stopped why) = refl
+    alike : (x : Result Pos Refusal) → (seen_pos x).position ≡ (seen_in x).position
+    alike (Ok p) = refl
+    alike (Err why) = refl
 
 module _ {p : Program} {row : Row} {i : ℕ} {walk : Walk} {b : ℕ} {n : Node} (m : Comes p row i walk b n) where
   -- the bank that node i stands in is one of the table's, and has its place in the walk's lists
@@ -45,13 +43,13 @@ module _ {p : Program} {row : Row} {i : ℕ} {walk : Walk} {b : ℕ} {n : Node} 
 
   module _ (o : Pos) (other : Bankdef) {c : Paced} (e : Paces (get_or p.banks.defs b other) (get_or walk.at b o) n c) where
     -- a step's numbers, with the place in the output, are the row's visit
-    pub paced-is-visit : {out : Offset} → out ≡ output_position (get_or p.banks.defs b other) c.seen.position
+    pub paced-is-visit : {out : Option ℕ} → out ≡ output_position (get_or p.banks.defs b other) c.seen.position
         → visit_by p row i n b (get_or p.banks.defs b other) (seen_by c n.index) out ≡ visit_at p row i
     unfolding walk_to
     paced-is-visit h =
         let d = get_or p.banks.defs b other in
         ap (visit_by p row i n b d (seen_by c n.index)) (h ∙ ap (output_position d) (sym (paced-position d (get_or walk.at b o) n e)))
-        ∙ ap (λ (x : Moved). visit_by p row i n b d x (output_position d (seen_pos x).position))
+        ∙ ap (λ (x : Result Pos Refusal). visit_by p row i n b d x (output_position d (seen_pos x).position))
         (sees p m.switches m.room row i m.walks m.met m.stands o d other e.1 refl)
         ∙ rw (
           its-record p m.switches m.room row i m.walks m.met m.stands other refl,

@@ -1,8 +1,7 @@
-use Rattle.nodes.specs.Lists.{Row, row_with}
-use Rattle.resolver.specs.Once.{Program, program_with}
-use Rattle.build_visits.specs.Sights.{Comes}
+use Rattle.nodes.specs.Lists.{row_with}
+use Rattle.resolver.specs.Once.{program_with}
 use Rattle.build_visits.specs.Theorems.Sights.{paced-position, paced-is-visit, paced-next, paced-still}
-use Rattle.build_write.proofs.WritingSteps.{begins, goes_on, item-fits, spans_fit}
+use Rattle.build_write.proofs.WritingSteps.{begins, comes, goes_on, item-fits, spans_fit}
 use Rattle.build_write.proofs.write_walk.Goals as goal
 
 pub loop-i-init : goal.loop-i-init
@@ -13,80 +12,31 @@ loop-i-init c =
 
 pub write_item-requires : goal.write_item-requires
 write_item-requires c =
-    -- what the walk is given
-    let given : Program =
-    program_with c.args.banks c.args.kinds.now c.args.operands.now c.args.first.now in
-    let row : Row =
-    row_with c.args.numbers.now c.args.states.now in
-    -- the walk has come to node i: owning a table tells that it has 16 records
-    let comes : Comes (given) (row) c.loop-i.i c.loop-i.walk c.bank_after-bank.result c.node_at-node.result =
-    record {
-      switches = c.requires.switches;
-      room = c.well_formed.0.1.1.0.1.0.1;
-      walks = c.loop-i.invariant.walks;
-      met = c.node_at-node.ensures;
-      stands = c.bank_after-bank.ensures;
-    } in
-    item-fits c.loop-i.invariant (paced-is-visit (comes) _ _ c.pace-step.ensures c.get_output_position-out.ensures.value)
-    c.loop-i-test.true
+    -- owning a table tells that it has 16 records
+    let came = comes c.loop-i.invariant c.requires.switches c.well_formed.0.1.1.0.1.0.1 c.node_at-node.ensures c.bank_after-bank.ensures in
+    item-fits c.loop-i.invariant (paced-is-visit came _ _ c.pace-step.ensures c.get_output_position-out.ensures.value) c.loop-i-test.true
 
 pub put_span-count-requires : goal.put_span-count-requires
 put_span-count-requires c =
-    -- what the walk is given
-    let given : Program =
-    program_with c.args.banks c.args.kinds.now c.args.operands.now c.args.first.now in
-    let row : Row =
-    row_with c.args.numbers.now c.args.states.now in
-    -- the walk has come to node i: owning a table tells that it has 16 records
-    let comes : Comes (given) (row) c.loop-i.i c.loop-i.walk c.bank_after-bank.result c.node_at-node.result =
-    record {
-      switches = c.requires.switches;
-      room = c.well_formed.0.1.1.0.1.0.1;
-      walks = c.loop-i.invariant.walks;
-      met = c.node_at-node.ensures;
-      stands = c.bank_after-bank.ensures;
-    } in
-    spans_fit c.loop-i.invariant (paced-is-visit (comes) _ _ c.pace-step.ensures c.get_output_position-out.ensures.value) c.loop-i-test.true
+    -- owning a table tells that it has 16 records
+    let came = comes c.loop-i.invariant c.requires.switches c.well_formed.0.1.1.0.1.0.1 c.node_at-node.ensures c.bank_after-bank.ensures in
+    spans_fit c.loop-i.invariant (paced-is-visit came _ _ c.pace-step.ensures c.get_output_position-out.ensures.value) c.loop-i-test.true
 
 -- a node that skips nothing
 pub loop-i-preserved-then-step-eq0 : goal.loop-i-preserved-then-step-eq0
 loop-i-preserved-then-step-eq0 c =
-    -- what the walk is given
-    let given : Program =
-    program_with c.args.banks c.args.kinds.now c.args.operands.now c.args.first.now in
-    let row : Row =
-    row_with c.args.numbers.now c.args.states.now in
-    -- the walk has come to node i: owning a table tells that it has 16 records
-    let comes : Comes (given) (row) c.loop-i.i c.loop-i.walk c.bank_after-bank.result c.node_at-node.result =
-    record {
-      switches = c.requires.switches;
-      room = c.well_formed.0.1.1.0.1.0.1;
-      walks = c.loop-i.invariant.walks;
-      met = c.node_at-node.ensures;
-      stands = c.bank_after-bank.ensures;
-    } in
+    -- owning a table tells that it has 16 records
+    let came = comes c.loop-i.invariant c.requires.switches c.well_formed.0.1.1.0.1.0.1 c.node_at-node.ensures c.bank_after-bank.ensures in
     let put = c.put_span-count.ensures in
-    goes_on c.loop-i.invariant (paced-is-visit (comes) _ _ c.pace-step.ensures c.get_output_position-out.ensures.value) c.loop-i-test.true
-    (paced-still (comes) _ _ c.pace-step.ensures c.if-step-eq0.true) c.write_item.ensures put.count
+    goes_on c.loop-i.invariant (paced-is-visit came _ _ c.pace-step.ensures c.get_output_position-out.ensures.value) c.loop-i-test.true
+    (paced-still came _ _ c.pace-step.ensures c.if-step-eq0.true) c.write_item.ensures put.count
     (rw (paced-position _ _ _ c.pace-step.ensures) put.addresses) put.offsets put.sizes
 
 pub loop-i-preserved : goal.loop-i-preserved
 loop-i-preserved c =
-    -- what the walk is given
-    let given : Program =
-    program_with c.args.banks c.args.kinds.now c.args.operands.now c.args.first.now in
-    let row : Row =
-    row_with c.args.numbers.now c.args.states.now in
-    -- the walk has come to node i: owning a table tells that it has 16 records
-    let comes : Comes (given) (row) c.loop-i.i c.loop-i.walk c.bank_after-bank.result c.node_at-node.result =
-    record {
-      switches = c.requires.switches;
-      room = c.well_formed.0.1.1.0.1.0.1;
-      walks = c.loop-i.invariant.walks;
-      met = c.node_at-node.ensures;
-      stands = c.bank_after-bank.ensures;
-    } in
+    -- owning a table tells that it has 16 records
+    let came = comes c.loop-i.invariant c.requires.switches c.well_formed.0.1.1.0.1.0.1 c.node_at-node.ensures c.bank_after-bank.ensures in
     let put = c.put_span-count.ensures in
-    goes_on c.loop-i.invariant (paced-is-visit (comes) _ _ c.pace-step.ensures c.get_output_position-out.ensures.value) c.loop-i-test.true
-    (paced-next (comes) _ _ c.pace-step.ensures c.lost_after-lost.ensures) c.write_item.ensures put.count
+    goes_on c.loop-i.invariant (paced-is-visit came _ _ c.pace-step.ensures c.get_output_position-out.ensures.value) c.loop-i-test.true
+    (paced-next came _ _ c.pace-step.ensures c.lost_after-lost.ensures) c.write_item.ensures put.count
     (rw (paced-position _ _ _ c.pace-step.ensures) put.addresses) put.offsets put.sizes

@@ -21,7 +21,7 @@ returns c =
     ∙ ap (agree (length (lent).aligns) n) (c.agreed-with_offsets.ensures
     ∙ ap (agree (length (lent).offsets) n) (c.agreed-with_sizes.ensures
     ∙ ap (agree (length (lent).sizes) n) c.agreed-with_starts.ensures)))) in
-    let held : c.at_most_16-held.result ≡ min (count_of (lent)) 16 =
-    c.at_most_16-held.ensures ∙ ap (λ (k : ℕ). min k 16) (agreed-on) in
+    let held : c.min-held.result ≡ min (count_of (lent)) 16 =
+    c.min-held.ensures ∙ ap (λ (k : ℕ). min k 16) (agreed-on) in
     let defs = c.make_table.ensures ∙ ap (λ (k : ℕ). banks_in (lent) k ++ replicate (16 - k) no_bank) (held) in
     λ i. record { defs = defs i; len = agreed-on i }

@@ -7,5 +7,5 @@ use Rattle.form_build.proofs.build_file.Goals as goal
 pub build_read-requires : goal.build_read-requires
 build_read-requires c =
     let a = c.args in
-    held a.file.now c.in-Sound.shape (sym c.read_shape.ensures.is ∙ c.in-Sound.is) _ _ _ _
+    held a.file.now c.in-Ok.shape (sym c.read_shape.ensures.is ∙ c.in-Ok.is) _ _ _ _
     (omega arith) (omega arith) (omega arith) (omega arith) c.read_lists.ensures.lists

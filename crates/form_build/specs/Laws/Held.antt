@@ -1,10 +1,8 @@
 -- The lists of a sound file fit the room kept for them and stand in its front.
-use Rattle.std.specs.Prelude.{◌≡◌, refl, List, ◌++◌, ℕ, ◌+◌, ◌*◌, ◌≤◌, length, take, drop}
+use Rattle.std.specs.Prelude.{◌≡◌, refl, List, ◌++◌, ℕ, ◌+◌, ◌*◌, ◌≤◌, length, take, drop, Ok}
 use Rattle.std.proofs.Common.{sym, ap, ap₂, ◌∙◌, arith, le-leb, length-append, take_at}
-use Rattle.prelude.specs.declared.Verdict.{Verdict}
-use Rattle.prelude.specs.declared.Verdict.TheVariants.{Accepted}
+use Rattle.prelude.specs.Verdict.{Verdict, Accepted}
 use Rattle.form_fields.specs.declared.Shape.{Shape}
-use Rattle.form_fields.specs.declared.Form.TheVariants.{Sound}
 use Rattle.form_fields.specs.Words.{byte, word32}
 use Rattle.form_fields.specs.Shape.{form_of, nodes_start, row_count}
 use Rattle.form_fields.specs.Laws.Shape.{node_count, rows_start}
@@ -22,7 +20,7 @@ module _ (new old after : List ℕ) (n : ℕ) (long : length new ≡ n) (is : af
   room : n ≤ length after
   room = omega (arith, ap length is, length-append new (drop (length new) old))
 
-module _ (file : List ℕ) (s : Shape) (sound : form_of file ≡ Sound s) (kinds operands numbers states : List ℕ) where
+module _ (file : List ℕ) (s : Shape) (sound : form_of file ≡ Ok s) (kinds operands numbers states : List ℕ) where
   -- a node takes 8 of at most 65,536 bytes, and 5 more in each row
   accepted : 8192 ≤ length kinds → 8192 ≤ length operands → 13107 ≤ length numbers → 13107 ≤ length states
       → {v : Verdict} {kinds' operands' numbers' states' : List ℕ} → Lists file kinds operands numbers states v kinds' operands' numbers' states' → v ≡ Accepted

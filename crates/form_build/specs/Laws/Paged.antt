@@ -1,9 +1,7 @@
 -- Laws that Theorems/Paged rests on.
-use Rattle.std.specs.Prelude.{◌≡◌, refl, ℕ}
+use Rattle.std.specs.Prelude.{◌≡◌, refl, ℕ, Err, Some}
 use Rattle.std.proofs.Common.{sym, ap, ◌∙◌}
-use Rattle.prelude.specs.declared.Opt.TheVariants.{Some}
-use Rattle.prelude.specs.declared.Verdict.{Verdict}
-use Rattle.prelude.specs.declared.Verdict.TheVariants.{Accepted, Refused}
+use Rattle.prelude.specs.Verdict.{Verdict, Accepted}
 use Rattle.output.specs.Output.{Input, Lent, room_of, build_of}
 use Rattle.output.specs.declared.Output.{Output}
 use Rattle.build_paged.specs.InProfile.{outcome, leaves, built_of, said_of, after_yes, built_in_profile, BuildsInProfile}
@@ -14,7 +12,7 @@ module _ (bits : ℕ) (b : Input) (old : Lent) where
   as_said : (v : Verdict)
       → after_yes v (built_of b old) old ≡ outcome (after_said v (build_of b (room_of old))) (leaves b old (after_said v (build_of b (room_of old))))
   as_said Accepted = refl
-  as_said (Refused why) = refl
+  as_said (Err why) = refl
 
   said-so : built_in_profile bits b old ≡ outcome (output_in (Some bits) b (room_of old)) (leaves b old (output_in (Some bits) b (room_of old)))
   unfolding built_in_profile

@@ -27,10 +27,10 @@ write1-requires-clause-file_in_bounds c =
     let a = c.args in
     c.answer.ensures
     ∙ back-answer a.file.now a.shape c.requires (length a.out.now) c.stray2-first.ensures c.length1-size.ensures c.bits_clear-clear.ensures in
-    let e = sym told ∙ c.in-Converted.is in converted-room _ _ _ _ _ _ _ _ e
+    let e = sym told ∙ c.in-Ok.is in converted-room _ _ _ _ _ _ _ _ e
 
-pub returns-in-Refused : goal.returns-in-Refused
-returns-in-Refused c =
+pub returns-in-Err : goal.returns-in-Err
+returns-in-Err c =
     -- the answer is the definition's
     let told : c.answer.result ≡ answer_for form1 (contents_in form2 c.args.file.now) (to_form1 (contents_in form2
     c.args.file.now)) (drops_bit (contents_in form2 c.args.file.now)) (length c.args.out.now) =
@@ -38,10 +38,10 @@ returns-in-Refused c =
     c.answer.ensures
     ∙ back-answer a.file.now a.shape c.requires (length a.out.now) c.stray2-first.ensures c.length1-size.ensures c.bits_clear-clear.ensures in
     let a = c.args in
-    back-refuses a.file.now a.shape c.requires (sym told ∙ c.in-Refused.is)
+    back-refuses a.file.now a.shape c.requires (sym told ∙ c.in-Err.is)
 
-pub returns-in-Converted : goal.returns-in-Converted
-returns-in-Converted c =
+pub returns-in-Ok : goal.returns-in-Ok
+returns-in-Ok c =
     -- the answer is the definition's
     let told : c.answer.result ≡ answer_for form1 (contents_in form2 c.args.file.now) (to_form1 (contents_in form2
     c.args.file.now)) (drops_bit (contents_in form2 c.args.file.now)) (length c.args.out.now) =
@@ -49,5 +49,5 @@ returns-in-Converted c =
     c.answer.ensures
     ∙ back-answer a.file.now a.shape c.requires (length a.out.now) c.stray2-first.ensures c.length1-size.ensures c.bits_clear-clear.ensures in
     let a = c.args in
-    let e = sym told ∙ c.in-Converted.is in
+    let e = sym told ∙ c.in-Ok.is in
     back-converts a.file.now a.shape c.requires e (writes-front (converted-room _ _ _ _ _ _ _ _ e) c.write1.ensures)

@@ -20,10 +20,10 @@ write2-requires-clause-file_in_bounds c =
     c.answer.ensures
     ∙ answer-is a.file.now a.shape c.requires (length a.out.now) c.nodes2-nodes.ensures c.stray1-first.ensures c.length2-size.ensures in
     let a = c.args in
-    let e = sym told ∙ c.in-Converted.is in converted-room _ _ _ _ _ _ _ _ e
+    let e = sym told ∙ c.in-Ok.is in converted-room _ _ _ _ _ _ _ _ e
 
-pub returns-in-Refused : goal.returns-in-Refused
-returns-in-Refused c =
+pub returns-in-Err : goal.returns-in-Err
+returns-in-Err c =
     -- the answer is the definition's
     let told : c.answer.result ≡ answer_for form2 (contents_in form1 c.args.file.now)
     (to_form2 (contents_in form1
@@ -32,10 +32,10 @@ returns-in-Refused c =
     c.answer.ensures
     ∙ answer-is a.file.now a.shape c.requires (length a.out.now) c.nodes2-nodes.ensures c.stray1-first.ensures c.length2-size.ensures in
     let a = c.args in
-    refuses a.file.now a.shape c.requires (sym told ∙ c.in-Refused.is)
+    refuses a.file.now a.shape c.requires (sym told ∙ c.in-Err.is)
 
-pub returns-in-Converted : goal.returns-in-Converted
-returns-in-Converted c =
+pub returns-in-Ok : goal.returns-in-Ok
+returns-in-Ok c =
     -- the answer is the definition's
     let told : c.answer.result ≡ answer_for form2 (contents_in form1 c.args.file.now)
     (to_form2 (contents_in form1
@@ -44,6 +44,6 @@ returns-in-Converted c =
     c.answer.ensures
     ∙ answer-is a.file.now a.shape c.requires (length a.out.now) c.nodes2-nodes.ensures c.stray1-first.ensures c.length2-size.ensures in
     let a = c.args in
-    let e = sym told ∙ c.in-Converted.is in
+    let e = sym told ∙ c.in-Ok.is in
     converts a.file.now a.shape c.requires e
     (writes-front (converted-room _ _ _ _ _ _ _ _ e) c.write2.ensures)

@@ -1,18 +1,14 @@
-use native.Mathlib.Omega.{arith}
-use Rattle.form_convert.proofs.Laws.{zero-on, zero-fails, zero-ends}
+-- `form_convert::is_zero` meets its contract: the library's test of all.
+use Prim.Native.Nat.{ℕ}
+use mathlib.Core.Path.{◌∙◌}
+use lib.Dec.{eqb}
+use Rattle.std.proofs.Common.{rules, tests}
+use Rattle.std.proofs.lemmas.Iterator.{YieldsList-from_slice}
+use Rattle.std.proofs.lemmas.Iterator.Search.{all_from_yields_List}
+use Rattle.form_convert.proofs.Laws.{all_is}
 use Rattle.form_convert.proofs.is_zero.Goals as goal
-
-pub returns-then-word-i-ne0 : goal.returns-then-word-i-ne0
-returns-then-word-i-ne0 c =
-    zero-fails c.args.word.now c.loop-i.i (omega arith) c.if-word-i-ne0.true c.loop-i.invariant.1
-
-pub loop-i-preserved : goal.loop-i-preserved
-loop-i-preserved c = (
-  omega arith,
-  zero-on c.args.word.now c.loop-i.i (omega arith) c.if-word-i-ne0.false
-      c.loop-i.invariant.1,
-)
 
 pub returns : goal.returns
 returns c =
-    zero-ends c.args.word.now c.loop-i.i (omega arith) c.loop-i.invariant.1
+    all_from_yields_List (λ (b : ℕ). eqb b 0) _ _ c.all.result c.all.ensures.ran (YieldsList-from_slice c.args.word.now cc) (λ x b q k. search (rules, tests))
+    ∙ all_is (λ (b : ℕ). eqb b 0) c.args.word.now

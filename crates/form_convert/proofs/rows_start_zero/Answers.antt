@@ -1,34 +1,30 @@
+-- `form_convert::rows_start_zero` meets its contract: the rows by their numbers.
 use Prim.Native.Nat.{ℕ, ◌+◌, ◌-◌, ◌*◌}
+use mathlib.Core.Bool.{Bool}
 use mathlib.Core.List.{List}
-use mathlib.Core.Path.{◌≡◌, sym, ap, ◌∙◌}
+use mathlib.Core.Path.{◌≡◌, ap, ◌∙◌}
 use native.Mathlib.Omega.{arith}
-use borrow.Author.Tests.{not-true, not-false}
 use lib.ListN.{take, drop}
+use Rattle.std.proofs.Common.{rules, tests}
+use Rattle.std.proofs.lemmas.Iterator.{YieldsList-from_range}
+use Rattle.std.proofs.lemmas.Iterator.Search.{all_from_yields_List}
 use Rattle.form_fields.specs.Whole.{part}
 use Rattle.form_rewrite.specs.Turning.{all_zero}
-use Rattle.form_convert.proofs.Laws.{all-on, all-fails, all-ends}
+use Rattle.form_convert.proofs.Laws.{column_all}
 use Rattle.form_convert.proofs.rows_start_zero.Goals as goal
 
-cut : (file : List ℕ) (p : ℕ) → take (p + 5 - p) (drop p file) ≡ part file 5 p
-cut file p = ap (λ (n : ℕ). take n (drop p file)) {x = p + 5 - p} {y = 5} (omega arith)
+-- the first five bytes of a row, as the code takes them
+abbrev starts : List ℕ → ℕ → ℕ → ℕ → Bool
+starts file from step i = all_zero (take (from + i * step + 5 - (from + i * step)) (drop (from + i * step) file))
 
-pub returns-then-not-is_zero : goal.returns-then-not-is_zero
-returns-then-not-is_zero c =
-    let a = c.args in
-    let i = c.loop-i.i in
-    all-fails all_zero (part a.file.now 5) a.step a.from a.count i (omega arith)
-    (ap all_zero (sym (cut a.file.now (a.from + i * a.step))) ∙ sym c.is_zero.ensures ∙ not-true _ c.if-not-is_zero.true-raw) c.loop-i.invariant.1
-
-pub loop-i-preserved : goal.loop-i-preserved
-loop-i-preserved c =
-    let a = c.args in
-    let i = c.loop-i.i in (
-      omega arith,
-      all-on all_zero (part a.file.now 5) a.step a.from a.count i (omega arith)
-          (ap all_zero (sym (cut a.file.now (a.from + i * a.step))) ∙ sym c.is_zero.ensures ∙ not-false _ c.if-not-is_zero.false-raw) c.loop-i.invariant.1,
-    )
+starts-is : (file : List ℕ) (from step i : ℕ) → starts file from step (0 + i) ≡ all_zero (part file 5 (from + i * step))
+starts-is file from step i =
+    ap (starts file from step) {x = 0 + i} {y = i} (omega arith)
+    ∙ ap (λ (n : ℕ). all_zero (take n (drop (from + i * step) file))) {x = from + i * step + 5 - (from + i * step)} {y = 5} (omega arith)
 
 pub returns : goal.returns
 returns c =
     let a = c.args in
-    all-ends all_zero (part a.file.now 5) a.step a.from a.count c.loop-i.i (omega arith) c.loop-i.invariant.1
+    all_from_yields_List (starts a.file.now a.from a.step) _ _ c.all.result c.all.ensures.ran (YieldsList-from_range 0 a.count a.count (cc) (omega arith))
+    (λ x b q k. search (rules, tests))
+    ∙ column_all (starts a.file.now a.from a.step) all_zero (part a.file.now 5) a.step a.from 0 a.count (starts-is a.file.now a.from a.step)

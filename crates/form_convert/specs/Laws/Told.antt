@@ -1,16 +1,14 @@
 -- Laws that Theorems/Told rests on.
-use Rattle.std.specs.Prelude.{ℕ, max, Bool, true, false, ◌≡◌, ltb, length}
+use Rattle.std.specs.Prelude.{ℕ, max, Bool, true, false, ◌≡◌, ltb, length, Ok, Err, Result}
 use Rattle.std.proofs.Math.Path.{refl}
 use Rattle.std.proofs.Common.{ltb-true, ltb-false}
 use Rattle.prelude.specs.Limits.{max_nodes, max_rows}
 use Rattle.prelude.specs.Pick.{pick}
 use Rattle.prelude.specs.declared.Refusal.TheVariants.{Malformed, FillBitDropped, TooShort}
-use Rattle.form_fields.specs.declared.Form.{Form}
-use Rattle.form_fields.specs.declared.Form.TheVariants.{Sound, Broken}
+use Rattle.prelude.specs.declared.Refusal.{Refusal}
 use Rattle.form_fields.specs.declared.Kind.{Kind}
 use Rattle.form_fields.specs.declared.Shape.{Shape}
 use Rattle.form_fields.specs.Contents.{Contents, written}
-use Rattle.form_convert.specs.declared.Conversion.TheVariants.{Converted, Refused}
 use Rattle.form_convert.specs.Convert.{stray, answer_of, answer_for, answer_by}
 use Rattle.form_convert.specs.Told.{ConvertTold, Counts, bit, broken, long, names, nodes, rows, short, taken, told_conversion}
 
@@ -31,11 +29,11 @@ module _ (k : Kind) (c d : Contents) (drops : Bool) (room : ℕ) (s : Shape) whe
 
   by_tests : (n r f l b t : Bool) → ltb max_nodes most ≡ n → ltb max_rows (length c.rows) ≡ r → ltb (stray c) (length c.nodes) ≡ f
       → ltb k.longest size ≡ l → drops ≡ b → ltb room size ≡ t
-      → ConvertTold k (Sound s) c d drops room (told_conversion
-      (pick n (Refused (Malformed 0))
-      (pick r (Refused (Malformed 1))
-      (pick f (Refused (Malformed (stray c)))
-      (pick l (Refused (Malformed 0)) (pick b (Refused FillBitDropped) (pick t (Refused (TooShort 0)) (Converted size))))))))
+      → ConvertTold k (Ok s) c d drops room (told_conversion
+      (pick n (Err (Malformed 0))
+      (pick r (Err (Malformed 1))
+      (pick f (Err (Malformed (stray c)))
+      (pick l (Err (Malformed 0)) (pick b (Err FillBitDropped) (pick t (Err (TooShort 0)) (Ok size))))))))
   by_tests true r f l b t p q g h e z = nodes s refl (ltb-true max_nodes most p)
   by_tests false true f l b t p q g h e z = rows s refl (ltb-false max_nodes most p) (ltb-true max_rows (length c.rows) q)
   by_tests false false true l b t p q g h e z =
@@ -47,13 +45,13 @@ module _ (k : Kind) (c d : Contents) (drops : Bool) (room : ℕ) (s : Shape) whe
   by_tests false false false false false false p q g h e z =
       taken s refl (counts p q g) (ltb-false k.longest size h) e (ltb-false room size z)
 
-  sound-told : ConvertTold k (Sound s) c d drops room (told_conversion (answer_for k c d drops room))
+  sound-told : ConvertTold k (Ok s) c d drops room (told_conversion (answer_for k c d drops room))
   unfolding answer_of
   sound-told =
       by_tests (ltb max_nodes most) (ltb max_rows (length c.rows)) (ltb (stray c) (length c.nodes)) (ltb k.longest size) drops (ltb room size) refl refl
       refl refl refl refl
 
-pub answer-told : (k : Kind) (form : Form) (c d : Contents) (drops : Bool) (room : ℕ)
+pub answer-told : (k : Kind) (form : Result Shape Refusal) (c d : Contents) (drops : Bool) (room : ℕ)
     → ConvertTold k form c d drops room (told_conversion (answer_by k form c d drops room))
-answer-told k (Broken why) c d drops room = broken refl
-answer-told k (Sound s) c d drops room = sound-told k c d drops room s
+answer-told k (Err why) c d drops room = broken refl
+answer-told k (Ok s) c d drops room = sound-told k c d drops room s

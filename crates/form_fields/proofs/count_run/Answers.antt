@@ -1,6 +1,7 @@
-use Prim.Native.Nat.{◌+◌, ◌≤◌}
-use mathlib.Core.Bool.{true}
+use Prim.Native.Nat.{ℕ, ◌+◌, ◌≤◌}
+use mathlib.Core.Bool.{Bool, true}
 use mathlib.Core.Path.{◌≡◌, refl, sym, ◌∙◌}
+use mathlib.Core.List.{List}
 use native.Mathlib.Omega.{arith}
 use lib.ListN.{length}
 use Rattle.form_fields.specs.Fields.{run, sound_at}
@@ -8,47 +9,27 @@ use Rattle.form_fields.specs.Laws.Fields.{sound-ends}
 use Rattle.form_fields.specs.Theorems.Fields.{run-stop, run_more}
 use Rattle.form_fields.proofs.count_run.Goals as goal
 
+-- a sound field ends within the file
+ends : (file : List ℕ) (tag len at : ℕ) {there : Bool} → there ≡ sound_at file tag len at → there ≡ true → at + 3 + len ≤ length file
+ends file tag len at e h = sound-ends file tag len at (sym e ∙ h)
+
 pub overflow_add-end : goal.overflow_add-end
 overflow_add-end c =
-    let there : sound_at c.args.file.now c.args.tag
-    c.args.len c.loop-end.end ≡ true =
-    sym c.is_sound.ensures ∙ c.loop-end-test.true in
-    let room : c.loop-end.end + 3 + c.args.len ≤ length
-    c.args.file.now =
-    sound-ends _ _ _ _ (there) in
-    omega (arith, room)
+    omega (arith, ends _ _ _ _ c.is_sound.ensures c.loop-end-test.true)
 
 pub overflow_add-end-in-loop-end : goal.overflow_add-end-in-loop-end
 overflow_add-end-in-loop-end c =
-    let there : sound_at c.args.file.now c.args.tag
-    c.args.len c.loop-end.end ≡ true =
-    sym c.is_sound.ensures ∙ c.loop-end-test.true in
-    let room : c.loop-end.end + 3 + c.args.len ≤ length
-    c.args.file.now =
-    sound-ends _ _ _ _ (there) in
-    omega (arith, room)
+    omega (arith, ends _ _ _ _ c.is_sound.ensures c.loop-end-test.true)
 
 pub loop-end-smaller : goal.loop-end-smaller
 loop-end-smaller c =
-    let there : sound_at c.args.file.now c.args.tag
-    c.args.len c.loop-end.end ≡ true =
-    sym c.is_sound.ensures ∙ c.loop-end-test.true in
-    let room : c.loop-end.end + 3 + c.args.len ≤ length
-    c.args.file.now =
-    sound-ends _ _ _ _ (there) in
-    omega (arith, room)
+    omega (arith, ends _ _ _ _ c.is_sound.ensures c.loop-end-test.true)
 
 pub loop-end-preserved : goal.loop-end-preserved
 loop-end-preserved c =
-    let there : sound_at c.args.file.now c.args.tag
-    c.args.len c.loop-end.end ≡ true =
-    sym c.is_sound.ensures ∙ c.loop-end-test.true in
-    let room : c.loop-end.end + 3 + c.args.len ≤ length
-    c.args.file.now =
-    sound-ends _ _ _ _ (there) in
     let a = c.args in
-    let more = run_more a.file.now a.tag a.len c.loop-end.end (there) in
-    omega (arith, room)
+    let more = run_more a.file.now a.tag a.len c.loop-end.end (sym c.is_sound.ensures ∙ c.loop-end-test.true) in
+    omega (arith, ends _ _ _ _ c.is_sound.ensures c.loop-end-test.true)
 
 pub returns-clause-count_value : goal.returns-clause-count_value
 returns-clause-count_value c =

@@ -1,16 +1,12 @@
 -- `form_fields::read_form2` meets its contract.
-use mathlib.Core.Path.{sym, ap, subst, ◌∙◌}
-use Rattle.form_fields.specs.declared.Kind.{Kind}
-use Rattle.form_fields.specs.Kind.{Known, is2, form2}
-use Rattle.form_fields.specs.Shape.{form_in}
+use Rattle.form_fields.specs.Kind.{is2, form2}
 use Rattle.form_fields.specs.Theorems.Told.{form-is}
 use Rattle.form_fields.proofs.read_form2.Goals as goal
 
 pub read_as-requires : goal.read_as-requires
 read_as-requires c =
-    subst Known (sym c.form2.ensures) is2
+    is2
 
 pub returns : goal.returns
 returns c =
-    let file = c.args.file.now in
-    form-is form2 file (c.read_as.ensures ∙ ap (λ (k : Kind). form_in k file) c.form2.ensures)
+    form-is form2 c.args.file.now c.read_as.ensures

@@ -1,4 +1,5 @@
 -- `form_fields::read_rest` meets its contract: the tests behind the rows, in order.
+use Rattle.std.specs.Prelude.{Err}
 use Prim.Native.Nat.{ℕ, ◌+◌, ◌≤◌}
 use mathlib.Core.Bool.{true, false}
 use mathlib.Core.Path.{◌≡◌, sym, ap, ◌∙◌}
@@ -6,7 +7,6 @@ use borrow.Author.Tests.{not-true, not-false}
 use native.Mathlib.Omega.{arith}
 use lib.ListN.{length}
 use Rattle.prelude.specs.declared.Refusal.TheVariants.{Malformed}
-use Rattle.form_fields.specs.declared.Form.TheVariants.{Broken}
 use Rattle.form_fields.specs.Fields.{field_at}
 use Rattle.form_fields.specs.Laws.Fields.{field-ends}
 use Rattle.form_fields.specs.Shape.{values_start_in, values_size_in, limit_start_in}
@@ -36,7 +36,7 @@ returns-then-at-file c =
     let file = c.args.file.now in
     let kind = c.args.kind in
     let k = c.requires.counted in
-    ap (λ (n : ℕ). Broken (Malformed n)) (before-is k)
+    ap (λ (n : ℕ). Err (Malformed n)) (before-is k)
     ∙ sym (form-values kind file k.short k.head (field_cut file 4 (values_size_in kind file) (values_start_in kind file) (omega (arith, k.behind))))
 
 pub returns-then-not-is_field : goal.returns-then-not-is_field
@@ -46,7 +46,7 @@ returns-then-not-is_field c =
     let k = c.requires.counted in
     let none : field_at file 4 (values_size_in kind file) (values_start_in kind file) ≡ false =
     sym (values-is _ _ _ _ k.behind c.read16-size.ensures) ∙ sym c.is_field.ensures ∙ not-true _ c.if-not-is_field.true-raw in
-    ap (λ (n : ℕ). Broken (Malformed n)) (before-is k) ∙ sym (form-values kind file k.short k.head none)
+    ap (λ (n : ℕ). Err (Malformed n)) (before-is k) ∙ sym (form-values kind file k.short k.head none)
 
 pub overflow_add-result : goal.overflow_add-result
 overflow_add-result c =
@@ -68,7 +68,7 @@ returns-then-not-is_field-2 c =
     let none : field_at file 5 1 (limit_start_in kind file) ≡ false =
     ap (field_at file 5 1) (sym (limit_is _ _ _ _ k.behind c.read16-size.ensures)) ∙ sym c.is_field-2.ensures ∙
     not-true _ c.if-not-is_field-2.true-raw in
-    ap (λ (n : ℕ). Broken (Malformed (n + 1))) (before-is k) ∙ sym (form-limit kind file k.short k.head (values) none)
+    ap (λ (n : ℕ). Err (Malformed (n + 1))) (before-is k) ∙ sym (form-limit kind file k.short k.head (values) none)
 
 pub overflow_add-result-then-limit-file : goal.overflow_add-result-then-limit-file
 overflow_add-result-then-limit-file c =
@@ -92,7 +92,7 @@ returns-then-limit-file c =
     let file = c.args.file.now in
     let kind = c.args.kind in
     let k = c.requires.counted in
-    ap (λ (n : ℕ). Broken (Malformed (n + 2))) (before-is k)
+    ap (λ (n : ℕ). Err (Malformed (n + 2))) (before-is k)
     ∙ sym (form-extra kind file k.short k.head (values) (limited) (omega (arith, limit)))
 
 pub bounds-file-limit : goal.bounds-file-limit

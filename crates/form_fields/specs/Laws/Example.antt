@@ -1,8 +1,6 @@
 -- Laws that Theorems/Example rests on.
-use Rattle.std.specs.Prelude.{true, false, [], ◌∷◌, ◌++◌, ◌≡◌, refl, ℕ, pos, take, set}
-use Rattle.prelude.specs.declared.Opt.TheVariants.{None, Some}
+use Rattle.std.specs.Prelude.{true, false, [], ◌∷◌, ◌++◌, ◌≡◌, refl, ℕ, pos, take, set, None, Some, Err}
 use Rattle.prelude.specs.declared.Refusal.TheVariants.{Malformed}
-use Rattle.form_fields.specs.declared.Form.TheVariants.{Broken}
 use Rattle.form_fields.specs.Words.{word16}
 use Rattle.form_fields.specs.Fields.{field_at, sound_at, run_in, run}
 use Rattle.form_fields.specs.Kind.{begins2, kind_of}
@@ -37,15 +35,15 @@ example =
 -- Broken files, each with the index of the first field at fault: an empty one; one cut in its first header; flags 16; an unknown tag; a
 -- bank behind a node; a row of four numbers for five nodes; values and limit missing; the limit missing; a byte behind the limit.
 pub example-broken :
-    (form_of [] ≡ Broken (Malformed 0))
-    × (form_of (take 2 example_file) ≡ Broken (Malformed 0))
-    × (form_of (set example_file 25 16) ≡ Broken (Malformed 0))
-    × (form_of (take 52 example_file ++ (6 ∷ 0 ∷ 0 ∷ [])) ≡ Broken (Malformed 2))
-    × (form_of (take 60 example_file ++ take 26 example_file) ≡ Broken (Malformed 3))
-    × (form_of (set example_file 94 20) ≡ Broken (Malformed 7))
-    × (form_of (take 120 example_file) ≡ Broken (Malformed 8))
-    × (form_of (take 127 example_file) ≡ Broken (Malformed 9))
-    × (form_of (example_file ++ (0 ∷ [])) ≡ Broken (Malformed 10))
+    (form_of [] ≡ Err (Malformed 0))
+    × (form_of (take 2 example_file) ≡ Err (Malformed 0))
+    × (form_of (set example_file 25 16) ≡ Err (Malformed 0))
+    × (form_of (take 52 example_file ++ (6 ∷ 0 ∷ 0 ∷ [])) ≡ Err (Malformed 2))
+    × (form_of (take 60 example_file ++ take 26 example_file) ≡ Err (Malformed 3))
+    × (form_of (set example_file 94 20) ≡ Err (Malformed 7))
+    × (form_of (take 120 example_file) ≡ Err (Malformed 8))
+    × (form_of (take 127 example_file) ≡ Err (Malformed 9))
+    × (form_of (example_file ++ (0 ∷ [])) ≡ Err (Malformed 10))
 unfolding example_file begins2 kind_of form_in shape_in bank_count_in nodes_start_in node_count_in rows_start_in row_count_in values_start_in values_size_in limit_start_in
     fields_before_in run run_in sound_at field_at word16
 example-broken = (refl, refl, refl, refl, refl, refl, refl, refl, refl)

@@ -1,5 +1,5 @@
 -- The form of a file by the tests behind its rows, one law for each answer.
-use Rattle.std.specs.Prelude.{true, false, List, ◌≡◌, ℕ, ◌+◌, ◌*◌, ◌≤◌, ◌<◌, length, ltb}
+use Rattle.std.specs.Prelude.{Result, true, false, List, ◌≡◌, ℕ, ◌+◌, ◌*◌, ◌≤◌, ◌<◌, length, ltb, Err, Ok}
 use Rattle.std.proofs.Math.Path.{refl, ap, ap₂}
 use Rattle.std.proofs.Common.{◌∙◌, arith}
 use borrow.Author.Tests.{lt-ltb, le-ltb, lt-leb, ltb-true, ltb-false}
@@ -8,7 +8,6 @@ use Rattle.prelude.specs.declared.Refusal.{Refusal}
 use Rattle.prelude.specs.declared.Refusal.TheVariants.{Malformed}
 use Rattle.form_fields.specs.declared.Kind.{Kind}
 use Rattle.form_fields.specs.declared.Shape.{Shape}
-use Rattle.form_fields.specs.declared.Form.TheVariants.{Sound, Broken}
 use Rattle.form_fields.specs.Words.{byte, word16}
 use Rattle.form_fields.specs.Fields.{field_at, run}
 use Rattle.form_fields.specs.Laws.Fields.{field-ends, by-test}
@@ -25,31 +24,31 @@ unfolding field_at
 field_cut file tag len at h = rw (lt-leb (at + 3 + len) (length file) (omega arith)) refl
 
 module _ (k : Kind) (file : List ℕ) where
-  pub form-long : k.longest < length file → form_in k file ≡ Broken (Malformed 0)
+  pub form-long : k.longest < length file → form_in k file ≡ Err (Malformed 0)
   unfolding form_in
   form-long h = rw (lt-ltb k.longest (length file) h) refl
 
   module _ (short : length file ≤ k.longest) where
-    pub form-head : headed k file ≡ false → form_in k file ≡ Broken (Malformed 0)
+    pub form-head : headed k file ≡ false → form_in k file ≡ Err (Malformed 0)
     unfolding form_in
     form-head h = rw (le-ltb k.longest (length file) short, h) refl
 
     module _ (h : headed k file ≡ true) where
-      pub form-values : field_at file 4 (values_size_in k file) (values_start_in k file) ≡ false → form_in k file ≡ Broken (Malformed (fields_before_in k file))
+      pub form-values : field_at file 4 (values_size_in k file) (values_start_in k file) ≡ false → form_in k file ≡ Err (Malformed (fields_before_in k file))
       unfolding form_in
       form-values v = rw (le-ltb k.longest (length file) short, h, v) refl
 
       module _ (v : field_at file 4 (values_size_in k file) (values_start_in k file) ≡ true) where
-        pub form-limit : field_at file 5 1 (limit_start_in k file) ≡ false → form_in k file ≡ Broken (Malformed (fields_before_in k file + 1))
+        pub form-limit : field_at file 5 1 (limit_start_in k file) ≡ false → form_in k file ≡ Err (Malformed (fields_before_in k file + 1))
         unfolding form_in
         form-limit l = rw (le-ltb k.longest (length file) short, h, v, l) refl
 
         module _ (l : field_at file 5 1 (limit_start_in k file) ≡ true) where
-          pub form-extra : limit_start_in k file + 4 < length file → form_in k file ≡ Broken (Malformed (fields_before_in k file + 2))
+          pub form-extra : limit_start_in k file + 4 < length file → form_in k file ≡ Err (Malformed (fields_before_in k file + 2))
           unfolding form_in
           form-extra e = rw (le-ltb k.longest (length file) short, h, v, l, lt-ltb (limit_start_in k file + 4) (length file) e) refl
 
-          pub form-sound : length file ≤ limit_start_in k file + 4 → form_in k file ≡ Sound (shape_in k file)
+          pub form-sound : length file ≤ limit_start_in k file + 4 → form_in k file ≡ Ok (shape_in k file)
           unfolding form_in
           form-sound e = rw (le-ltb k.longest (length file) short, h, v, l, le-ltb (limit_start_in k file + 4) (length file) e) refl
 
@@ -77,14 +76,15 @@ module _ (k : Kind) (file : List ℕ) (at size : ℕ) (p : at ≡ values_start_i
 
 -- the shape that the code puts together
 pub shape_is : {k : Kind} {file : List ℕ} {banks nodes rows at : ℕ} (size : ℕ) → Counted k file banks nodes rows at → size ≡ word16 file (at + 1)
-    → Sound (record { form = k.form; banks = banks; nodes = nodes; rows = rows; values = at + 3; size = size; limit = byte file (at + 3 + size + 3) })
-    ≡ Sound (shape_in k file)
+    → ◌≡◌ {A = Result Shape Refusal}
+    (Ok (record { form = k.form; banks = banks; nodes = nodes; rows = rows; values = at + 3; size = size; limit = byte file (at + 3 + size + 3) }))
+    (Ok (shape_in k file))
 unfolding shape_in
 shape_is {k} {file} {banks} {nodes} {rows} {at} size counts q =
     let limit = limit_is k file at size counts.behind q in
     let len = size_is k file at size counts.behind q in
     λ i.
-    Sound
+    Ok
     (record {
       form = k.form;
       banks = counts.of-banks i;
@@ -120,7 +120,7 @@ pub record SoundFile (k : Kind) (file : List ℕ) (s : Shape) : Type 0 where
   pub limit : field_at file 5 1 (limit_start_in k file) ≡ true
   pub whole : limit_start_in k file + 4 ≡ length file
 
-pub sound-file : (k : Kind) (file : List ℕ) (s : Shape) → form_in k file ≡ Sound s → SoundFile k file s
+pub sound-file : (k : Kind) (file : List ℕ) (s : Shape) → form_in k file ≡ Ok s → SoundFile k file s
 sound-file k file s e =
     by-test (ltb k.longest (length file))
     (λ long. never (form-long k file (ltb-true k.longest (length file) long)))
@@ -149,8 +149,8 @@ sound-file k file s e =
     (λ v. never (form-values k file short h v)))
     (λ h. never (form-head k file short h)))
   where
-    never : {X : Type 0} {r : Refusal} → form_in k file ≡ Broken r → X
+    never : {X : Type 0} {r : Refusal} → form_in k file ≡ Err r → X
     never b = unlike cc
 
-    same : {t : Shape} → form_in k file ≡ Sound t → s ≡ t
+    same : {t : Shape} → form_in k file ≡ Ok t → s ≡ t
     same {t} b = cc

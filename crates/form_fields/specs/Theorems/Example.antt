@@ -1,6 +1,5 @@
 -- Theorems about what Example defines.
-use Rattle.std.specs.Prelude.{◌≡◌, refl}
-use Rattle.form_fields.specs.declared.Form.TheVariants.{Sound}
+use Rattle.std.specs.Prelude.{◌≡◌, refl, Ok}
 use Rattle.form_fields.specs.Words.{word16}
 use Rattle.form_fields.specs.Fields.{field_at, sound_at, run_in, run}
 use Rattle.form_fields.specs.Kind.{form1, begins2, kind_of}
@@ -19,12 +18,12 @@ example-is = refl
 -- ---- the definitions, run on that file and on files made of it
 
 -- It is sound, with two banks, five nodes and one row; the four value bytes start at byte 123, and the limit is 10.
-pub example-sound : form_of example_file ≡ Sound (record { form = 1; banks = 2; nodes = 5; rows = 1; values = 123; size = 4; limit = 10 })
+pub example-sound : form_of example_file ≡ Ok (record { form = 1; banks = 2; nodes = 5; rows = 1; values = 123; size = 4; limit = 10 })
 unfolding example_file begins2 kind_of form_in shape_in bank_count_in nodes_start_in node_count_in rows_start_in row_count_in values_start_in values_size_in limit_start_in
     fields_before_in run run_in sound_at field_at word16
 example-sound = refl
 
-pub example2-sound : form_of example_file2 ≡ Sound (record { form = 2; banks = 2; nodes = 5; rows = 1; values = 129; size = 4; limit = 10 })
+pub example2-sound : form_of example_file2 ≡ Ok (record { form = 2; banks = 2; nodes = 5; rows = 1; values = 129; size = 4; limit = 10 })
 unfolding example_file example_file2 begins2 kind_of form_in shape_in bank_count_in nodes_start_in node_count_in rows_start_in row_count_in values_start_in values_size_in
     limit_start_in fields_before_in run run_in sound_at field_at word16
 example2-sound = refl

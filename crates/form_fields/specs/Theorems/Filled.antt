@@ -1,12 +1,11 @@
 -- How reading the lists meets `Lists`: one law for each answer.
-use Rattle.std.specs.Prelude.{◌≡◌, refl, List, ◌++◌, ℕ, ◌+◌, ◌*◌, ◌≤◌, ◌<◌, length, drop}
+use Rattle.std.specs.Prelude.{◌≡◌, refl, List, ◌++◌, ℕ, ◌+◌, ◌*◌, ◌≤◌, ◌<◌, length, drop, Ok, Err}
 use Rattle.std.proofs.Common.{sym, ap, ap₂, ◌∙◌, le-leb}
 use Rattle.std.proofs.Math.Seq.{paste}
 use Rattle.std.proofs.lemmas.Bool.{lt-leb}
 use Rattle.prelude.specs.declared.Refusal.TheVariants.{Malformed}
-use Rattle.prelude.specs.declared.Verdict.TheVariants.{Accepted, Refused}
+use Rattle.prelude.specs.Verdict.{Accepted}
 use Rattle.form_fields.specs.declared.Shape.{Shape}
-use Rattle.form_fields.specs.declared.Form.TheVariants.{Sound}
 use Rattle.form_fields.specs.Columns.{column}
 use Rattle.form_fields.specs.Words.{byte, word32}
 use Rattle.form_fields.specs.Kind.{kind_of}
@@ -18,18 +17,18 @@ use Rattle.form_fields.specs.Laws.Cells.{cells-length}
 use Rattle.form_fields.specs.Laws.Rest.{sound-file}
 use Rattle.form_fields.specs.Laws.Filled.{Places, at-shape, paste-front}
 
-pub places : (file : List ℕ) (s : Shape) → form_of file ≡ Sound s → Places file s
+pub places : (file : List ℕ) (s : Shape) → form_of file ≡ Ok s → Places file s
 places file s e =
     let k = sound-file (kind_of file) file s e in
     rw k.shape (at-shape file k.short)
 
-module _ (file kinds operands numbers states : List ℕ) (s : Shape) (e : form_of file ≡ Sound s) where
-  pub lists-kinds : length kinds < s.nodes → Lists file kinds operands numbers states (Refused (Malformed 0)) kinds operands numbers states
+module _ (file kinds operands numbers states : List ℕ) (s : Shape) (e : form_of file ≡ Ok s) where
+  pub lists-kinds : length kinds < s.nodes → Lists file kinds operands numbers states (Err (Malformed 0)) kinds operands numbers states
   lists-kinds h =
       record { verdict = rw (e, lt-leb s.nodes (length kinds) h) refl; of-kinds = refl; of-operands = refl; of-numbers = refl; of-states = refl }
 
   module _ (hk : s.nodes ≤ length kinds) where
-    pub lists-operands : length operands < s.nodes → Lists file kinds operands numbers states (Refused (Malformed 0)) kinds operands numbers states
+    pub lists-operands : length operands < s.nodes → Lists file kinds operands numbers states (Err (Malformed 0)) kinds operands numbers states
     lists-operands h =
         record {
           verdict = rw (e, le-leb s.nodes (length kinds) hk, lt-leb s.nodes (length operands) h) refl;
@@ -40,7 +39,7 @@ module _ (file kinds operands numbers states : List ℕ) (s : Shape) (e : form_o
         }
 
     module _ (ho : s.nodes ≤ length operands) where
-      pub lists-numbers : length numbers < s.rows * s.nodes → Lists file kinds operands numbers states (Refused (Malformed 1)) kinds operands numbers states
+      pub lists-numbers : length numbers < s.rows * s.nodes → Lists file kinds operands numbers states (Err (Malformed 1)) kinds operands numbers states
       lists-numbers h =
           record {
             verdict = rw (e, le-leb s.nodes (length kinds) hk, le-leb s.nodes (length operands) ho, lt-leb (s.rows * s.nodes) (length numbers) h)
@@ -52,7 +51,7 @@ module _ (file kinds operands numbers states : List ℕ) (s : Shape) (e : form_o
           }
 
       module _ (hn : s.rows * s.nodes ≤ length numbers) where
-        pub lists-states : length states < s.rows * s.nodes → Lists file kinds operands numbers states (Refused (Malformed 1)) kinds operands numbers states
+        pub lists-states : length states < s.rows * s.nodes → Lists file kinds operands numbers states (Err (Malformed 1)) kinds operands numbers states
         lists-states h =
             record {
               verdict = rw (

@@ -12,10 +12,7 @@ pub returns : goal.returns
 unfolding bank_at
 returns c =
     let flags = byte c.args.file.now (c.args.at + 25) in
-    let start = to_z-of_z w64 c.signed.result (record {
-      sfits = c.signed.type_inv;
-    }) ∙ c.signed.ensures ∙ ap (to_z
-    w64) c.read64.ensures in
+    let start = to_z-of_z w64 c.cast_signed.result (record { sfits = c.cast_signed.type_inv }) ∙ c.cast_signed.ensures ∙ ap (to_z w64) c.read64.ensures in
     let size = c.option.ensures ∙ ap (opt_of flags 1) c.read32.ensures in
     let offset = c.option-2.ensures ∙ ap (opt_of flags 2) c.read32-2.ensures in
     let align = c.option-3.ensures ∙ ap (opt_of flags 4) c.read32-3.ensures in

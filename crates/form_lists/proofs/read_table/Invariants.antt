@@ -1,14 +1,9 @@
--- `form_lists::read_table` meets its contract. The invariant: the first i banks, and no bank behind them.
-use Prim.Native.Nat.{◌+◌, ◌-◌, ◌≤◌}
+-- `form_lists::read_table` meets its contract. The invariant: the first i banks, and behind them what stood there.
 use mathlib.Core.Path.{◌≡◌}
 use mathlib.Core.List.{◌++◌}
-use lib.ListN.{replicate}
-use Rattle.bankdef.specs.Check.{no_bank}
+use lib.ListN.{drop}
 use Rattle.form_fields.specs.Banks.{banks_in}
 use Rattle.form_lists.proofs.read_table.Given as goal
 
 abbrev pub invariant-loop-i : goal.invariant-loop-i
-invariant-loop-i l = (l.i ≤ l.count) × (l.defs ≡ banks_in l.kind l.file l.i ++ replicate (16 - l.i) no_bank)
-
-abbrev pub decreases-loop-i : goal.decreases-loop-i
-decreases-loop-i l = l.count - l.i
+invariant-loop-i l = l.def-items ≡ banks_in l.kind l.file l.i ++ drop l.i l.initial.def-items

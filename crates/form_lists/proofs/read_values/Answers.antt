@@ -1,5 +1,5 @@
 -- `form_lists::read_values` meets its contract: the part that the shape names stands within the file.
-use Prim.Native.Nat.{ℕ, ◌+◌, ◌-◌}
+use Prim.Native.Nat.{ℕ, ◌+◌}
 use mathlib.Core.Path.{◌≡◌, sym, ap, ◌∙◌}
 use mathlib.Core.List.{List}
 use native.Mathlib.Omega.{arith}
@@ -17,14 +17,14 @@ inside k file s f = ap (λ (t : Shape). t.values + t.size + 4) f.shape ∙ f.who
 
 pub overflow_add-end : goal.overflow_add-end
 overflow_add-end c =
-    let within : c.in-Sound.shape.values + c.in-Sound.shape.size + 4 ≡ length
+    let within : c.in-Ok.shape.values + c.in-Ok.shape.size + 4 ≡ length
     c.args.file.now =
-    inside _ _ _ (sound-file _ _ _ (sym c.read_shape.ensures.is ∙ c.in-Sound.is)) in
+    inside _ _ _ (sound-file _ _ _ (sym c.read_shape.ensures.is ∙ c.in-Ok.is)) in
     omega (arith, within)
 
 pub slice_bounds-result-end-2 : goal.slice_bounds-result-end-2
 slice_bounds-result-end-2 c =
-    let within : c.in-Sound.shape.values + c.in-Sound.shape.size + 4 ≡ length
+    let within : c.in-Ok.shape.values + c.in-Ok.shape.size + 4 ≡ length
     c.args.file.now =
-    inside _ _ _ (sound-file _ _ _ (sym c.read_shape.ensures.is ∙ c.in-Sound.is)) in
+    inside _ _ _ (sound-file _ _ _ (sym c.read_shape.ensures.is ∙ c.in-Ok.is)) in
     omega (arith, within)

@@ -50,8 +50,8 @@ write_zeros-requires c =
       writes-long w,
     )
 
-pub returns : goal.returns
-returns c =
+pub returns-clause-writes : goal.returns-clause-writes
+returns-clause-writes c =
     let all : Writes
     ((c.args.tag ∷ bytes16 (c.args.before + length c.args.word.now + c.args.behind))
     ++ (zeros c.args.before ++ (c.args.word.now ++ zeros c.args.behind)))
@@ -62,3 +62,17 @@ returns c =
     let payload = zeros a.before ++ (a.word.now ++ zeros a.behind) in
     let e = header-field a.tag (a.before + length a.word.now + a.behind) payload (padded-length a.before a.behind a.word.now) in
     subst (λ (l : List ℕ). Writes l a.out.now a.at c.write_zeros.result c.write_zeros.new.out) e all
+
+pub returns-clause-value : goal.returns-clause-value
+returns-clause-value c =
+    let a = c.args in
+    omega (
+      arith,
+      c.write_header-first.ensures.place,
+      header-length a.tag (a.before + length a.word.now + a.behind),
+      c.write_zeros-second.ensures.place,
+      zeros-length a.before,
+      c.write_word-third.ensures.place,
+      c.write_zeros.ensures.place,
+      zeros-length a.behind,
+    )

@@ -37,7 +37,7 @@ loop-i-preserved c =
     let room = behind-file in
     let next : Writes (field a.tag (what p)) c.loop-i.out c.loop-i.end c.write_field-end.result c.write_field-end.new.out =
     subst (λ (l : List ℕ). Writes (field a.tag (zeros a.before ++ (l ++ zeros a.behind))) c.loop-i.out c.loop-i.end
-    c.write_field-end.result c.write_field-end.new.out) (cut file p a.keep) c.write_field-end.ensures in
+    c.write_field-end.result c.write_field-end.new.out) (cut file p a.keep) c.write_field-end.ensures.writes in
     let long = field-length a.tag (what p) in
     let keep = part_length file a.keep p (omega (arith, room)) in
     let pad = padded-length a.before a.behind (part file a.keep p) in

@@ -1,5 +1,5 @@
 -- Laws that Theorems/AdvanceFacts rests on.
-use Rattle.std.specs.Prelude.{ℕ, ◌<◌, ◌≡◌, false, ◌⊎◌, leb}
+use Rattle.std.specs.Prelude.{ℕ, ◌<◌, ◌≡◌, false, ◌⊎◌, leb, Err, Result}
 use Rattle.std.proofs.Common.{ap, ◌∙◌, inl, inr, arith, leb-true, le-ltb}
 use Rattle.prelude.specs.Laws.Bools.{either}
 use Rattle.prelude.specs.Refusals.{number_of}
@@ -12,8 +12,6 @@ use Rattle.iter.specs.Figures as told
 use Rattle.iter.specs.Figures.{told_distance, Measures, SoundState}
 use Rattle.iter.specs.Step.{bad_state}
 use Rattle.iter.specs.Theorems.ToldFacts.{distance-told}
-use Rattle.iter.specs.declared.Distance.{Distance}
-use Rattle.iter.specs.declared.Distance.TheVariants.{Refused as NoDistance}
 use Rattle.iter.specs.declared.Skipped.{Skipped}
 use Rattle.nodes.specs.declared.Node.{Node}
 use Rattle.iter.specs.declared.Pos.{Pos}
@@ -34,8 +32,8 @@ not-measured (told.none h z) e = omega arith
 not-measured (told.next h k s a w) e = omega arith
 
 -- a distance is never refused 5
-pub not-five-of : (def : Bankdef) (position a node : ℕ) (why : Refusal) → distance_of def position a node ≡ NoDistance why → number_of why ≡ 5 → ⊥
-not-five-of def position a node why e n = not-measured (distance-told def position a node) (ap (λ (d : Distance). told_number (told_distance d)) e ∙ n)
+pub not-five-of : (def : Bankdef) (position a node : ℕ) (why : Refusal) → distance_of def position a node ≡ Err why → number_of why ≡ 5 → ⊥
+not-five-of def position a node why e n = not-measured (distance-told def position a node) (ap (λ (d : Result Skipped Refusal). told_number (told_distance d)) e ∙ n)
 
 pub sound-test : (node : Node) → SoundState node → bad_state node ≡ false
 sound-test node s =

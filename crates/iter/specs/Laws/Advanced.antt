@@ -1,23 +1,21 @@
 -- What a node sees and its own advance, by cases of its kind.
-use Rattle.std.specs.Prelude.{ℕ, ◌≡◌, Bool, true, false}
+use Rattle.std.specs.Prelude.{ℕ, ◌≡◌, Bool, true, false, Ok, None, Some}
 use Rattle.std.proofs.Common.{eq-eqb}
 use Rattle.prelude.specs.Laws.Bools.{either}
-use Rattle.prelude.specs.declared.Opt.TheVariants.{None, Some}
 use Rattle.bankdef.specs.declared.Bankdef.{Bankdef}
 use Rattle.iter.specs.Step.{aligned_to, outermost_symbol, seen_of, advanced_of, still, aligned_motion, seen_skips, seen_motion, advance_skips}
 use Rattle.iter.specs.Step.{advance_motion}
-use Rattle.iter.specs.declared.Moved.TheVariants.{To}
 use Rattle.iter.specs.declared.Pos.{Pos}
 use Rattle.nodes.specs.declared.Node.{Node}
 
 module _ (def : Bankdef) (at : Pos) (node : Node) where
   -- a node that is no symbol of depth 0
-  pub sight-plain : outermost_symbol node ≡ false → still (To at) ≡ seen_motion def at node
+  pub sight-plain : outermost_symbol node ≡ false → still (Ok at) ≡ seen_motion def at node
   unfolding seen_of seen_skips
   sight-plain e = rw e
 
   -- a bank without label alignment
-  pub sight-unaligned : def.align ≡ None → still (To at) ≡ seen_motion def at node
+  pub sight-unaligned : def.align ≡ None → still (Ok at) ≡ seen_motion def at node
   unfolding seen_of seen_skips
   sight-unaligned e = either (outermost_symbol node) (λ t. rw (t, e)) (λ t. rw t)
 

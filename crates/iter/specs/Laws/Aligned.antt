@@ -1,5 +1,5 @@
 -- Laws that Theorems/Aligned rests on.
-use Rattle.std.specs.Prelude.{ℕ, zero, suc, ◌+◌, ◌-◌, ◌*◌, ◌/◌, ◌%◌, ◌≤◌, ◌<◌, ◌≡◌, refl, Bool, true, false, eqb, ltb, ℤ, pos, negsuc, neg_ℤ, ◌*ℤ◌}
+use Rattle.std.specs.Prelude.{ℕ, zero, suc, ◌+◌, ◌-◌, ◌*◌, ◌/◌, ◌%◌, ◌≤◌, ◌<◌, ◌≡◌, refl, Bool, true, false, eqb, ltb, ℤ, pos, negsuc, neg_ℤ, ◌*ℤ◌, Err, Ok, Result}
 use Rattle.std.proofs.Common.{sym, ap, ◌∙◌, mod-lt, div-add-mod', add-mul, one-mul, zero-mul, suc-mul, mul-le-mul_right, lt_of_mul-lt-mul_right, arith, ltb-true, ltb-false, lt-ltb, le-ltb, eqb-true, ne_eqb}
 use Rattle.std.proofs.Math.Nat.{mod-le, add-mul-mod_self_right, zero-div}
 use Rattle.std.proofs.Math.IntN.{sub_ℕ}
@@ -9,7 +9,6 @@ use Rattle.prelude.specs.Pick.{pick}
 use Rattle.prelude.specs.declared.Refusal.{Refusal}
 use Rattle.bankdef.specs.declared.Bankdef.{Bankdef}
 use Rattle.iter.specs.Distance.{skips_of, no_skip}
-use Rattle.iter.specs.declared.Distance.TheVariants.{Skips, Refused}
 use Rattle.iter.specs.declared.Skipped.{Skipped}
 use Rattle.iter.specs.Aligned.{Aligns}
 
@@ -113,10 +112,10 @@ nonzero a h = ne_eqb a 0 (λ e. omega arith)
 
 -- ---- the definition followed test by test
 
-pub never : (why : Refusal) (s : Skipped) → Refused why ≡ Skips s → ⊥
+pub never : (why : Refusal) (s : Skipped) → Err why ≡ Ok s → ⊥
 never why s e = unlike cc
 
-pub skips-same : {s t : Skipped} → Skips s ≡ Skips t → s ≡ t
+pub skips-same : {s t : Skipped} → ◌≡◌ {A = Result Skipped Refusal} (Ok s) (Ok t) → s ≡ t
 skips-same e = cc
 
 -- a distance of 0 skips no unit

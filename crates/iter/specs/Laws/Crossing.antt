@@ -1,5 +1,5 @@
 -- Laws that Theorems/Crossing rests on.
-use Rattle.std.specs.Prelude.{ℕ, zero, suc, ◌<◌, ◌≡◌, refl, Bool, true, false, ◌||◌, List, [], ◌∷◌, get_or, length}
+use Rattle.std.specs.Prelude.{ℕ, zero, suc, ◌<◌, ◌≡◌, refl, Bool, true, false, ◌||◌, List, [], ◌∷◌, get_or, length, Err, Ok, Result}
 use Rattle.std.proofs.Common.{sym, ap, ◌∙◌, le_of_suc-le-suc, arith}
 use Rattle.prelude.specs.Laws.Bools.{unlike}
 use Rattle.prelude.specs.Pick.{pick}
@@ -12,8 +12,6 @@ use Rattle.iter.specs.Distance.{no_skip}
 use Rattle.iter.specs.Step.{origin, outermost_symbol, seen_of, bad_state, advanced_of, stopped, step_skips, stepped_to, stepped_from}
 use Rattle.iter.specs.Laws.StepFacts.{sees_plain}
 use Rattle.iter.specs.declared.Crossing.{Crossing}
-use Rattle.iter.specs.declared.Moved.{Moved}
-use Rattle.iter.specs.declared.Moved.TheVariants.{To, Refused}
 use Rattle.nodes.specs.declared.Node.{Node}
 use Rattle.iter.specs.declared.Pos.{Pos}
 use Rattle.iter.specs.declared.Skipped.{Skipped}
@@ -27,61 +25,61 @@ module _ (def : Bankdef) (at : Pos) (node : Node) where
   cross-malformed e = pick_true _ _ e
 
   module _ (sound : bad_state node ≡ false) where
-    pub cross-blind : (why : Refusal) → seen_of def at node ≡ Refused why → crossing_of def at node ≡ halted at why
+    pub cross-blind : (why : Refusal) → seen_of def at node ≡ Err why → crossing_of def at node ≡ halted at why
     unfolding crossing_of
     cross-blind why s = rw (sound, s)
 
-    pub cross-stuck : (p : Pos) (why : Refusal) → seen_of def at node ≡ To p → advanced_of def p node ≡ Refused why → crossing_of def at node ≡ halted at why
+    pub cross-stuck : (p : Pos) (why : Refusal) → seen_of def at node ≡ Ok p → advanced_of def p node ≡ Err why → crossing_of def at node ≡ halted at why
     unfolding crossing_of
     cross-stuck p why s a = rw (sound, s, a)
 
-    pub cross-moves : (p q : Pos) → seen_of def at node ≡ To p → advanced_of def p node ≡ To q
-        → crossing_of def at node ≡ record { seen = To p; skipped = step_skips def at p node; after = q }
+    pub cross-moves : (p q : Pos) → seen_of def at node ≡ Ok p → advanced_of def p node ≡ Ok q
+        → crossing_of def at node ≡ record { seen = Ok p; skipped = step_skips def at p node; after = q }
     unfolding crossing_of
     cross-moves p q s a = rw (sound, s, a)
 
-never : {p : Pos} {why : Refusal} → To p ≡ Refused why → ⊥
+never : {p : Pos} {why : Refusal} → Ok p ≡ Err why → ⊥
 never e = unlike cc
 
 -- A crossing that is refused leaves the position as it was.
-pub halts : (def : Bankdef) (at : Pos) (node : Node) (why : Refusal) {c : Crossing} → c ≡ crossing_of def at node → c.seen ≡ Refused why → c.after ≡ at
+pub halts : (def : Bankdef) (at : Pos) (node : Node) (why : Refusal) {c : Crossing} → c ≡ crossing_of def at node → c.seen ≡ Err why → c.after ≡ at
 unfolding crossing_of
 halts def at node why e f =
     ap (λ (x : Crossing). x.after) e ∙ tested (bad_state node) (seen_of def at node) (ap (λ (x : Crossing). x.seen) (sym e) ∙ f)
   where
-    advanced : (p : Pos) (s : Skipped) (m : Moved) → (crossed_to at p s m).seen ≡ Refused why → (crossed_to at p s m).after ≡ at
-    advanced p s (To q) g = absurd (never g)
-    advanced p s (Refused x) g = refl
+    advanced : (p : Pos) (s : Skipped) (m : Result Pos Refusal) → (crossed_to at p s m).seen ≡ Err why → (crossed_to at p s m).after ≡ at
+    advanced p s (Ok q) g = absurd (never g)
+    advanced p s (Err x) g = refl
 
-    tested : (t : Bool) (m : Moved) → (pick t (halted at (Malformed node.index)) (crossed_from def at node m)).seen ≡ Refused why
+    tested : (t : Bool) (m : Result Pos Refusal) → (pick t (halted at (Malformed node.index)) (crossed_from def at node m)).seen ≡ Err why
         → (pick t (halted at (Malformed node.index)) (crossed_from def at node m)).after ≡ at
     tested true m g = refl
-    tested false (To p) g = advanced p (step_skips def at p node) (advanced_of def p node) g
-    tested false (Refused x) g = refl
+    tested false (Ok p) g = advanced p (step_skips def at p node) (advanced_of def p node) g
+    tested false (Err x) g = refl
 
 -- And nothing is skipped.
-pub halts-skip : (def : Bankdef) (at : Pos) (node : Node) (why : Refusal) {c : Crossing} → c ≡ crossing_of def at node → c.seen ≡ Refused why
+pub halts-skip : (def : Bankdef) (at : Pos) (node : Node) (why : Refusal) {c : Crossing} → c ≡ crossing_of def at node → c.seen ≡ Err why
     → c.skipped ≡ no_skip
 unfolding crossing_of
 halts-skip def at node why e f =
     ap (λ (x : Crossing). x.skipped) e ∙ tested (bad_state node) (seen_of def at node) (ap (λ (x : Crossing). x.seen) (sym e) ∙ f)
   where
-    advanced : (p : Pos) (s : Skipped) (m : Moved) → (crossed_to at p s m).seen ≡ Refused why → (crossed_to at p s m).skipped ≡ no_skip
-    advanced p s (To q) g = absurd (never g)
-    advanced p s (Refused x) g = refl
+    advanced : (p : Pos) (s : Skipped) (m : Result Pos Refusal) → (crossed_to at p s m).seen ≡ Err why → (crossed_to at p s m).skipped ≡ no_skip
+    advanced p s (Ok q) g = absurd (never g)
+    advanced p s (Err x) g = refl
 
-    tested : (t : Bool) (m : Moved) → (pick t (halted at (Malformed node.index)) (crossed_from def at node m)).seen ≡ Refused why
+    tested : (t : Bool) (m : Result Pos Refusal) → (pick t (halted at (Malformed node.index)) (crossed_from def at node m)).seen ≡ Err why
         → (pick t (halted at (Malformed node.index)) (crossed_from def at node m)).skipped ≡ no_skip
     tested true m g = refl
-    tested false (To p) g = advanced p (step_skips def at p node) (advanced_of def p node) g
-    tested false (Refused x) g = refl
+    tested false (Ok p) g = advanced p (step_skips def at p node) (advanced_of def p node) g
+    tested false (Err x) g = refl
 
 -- A bank switch is made wherever there is such a bank.
-pub switch-made : (def : Bankdef) (at : Pos) (node : Node) → node.kind ≡ 1 → (why : Refusal) → (crossing_of def at node).seen ≡ Refused why → ⊥
+pub switch-made : (def : Bankdef) (at : Pos) (node : Node) → node.kind ≡ 1 → (why : Refusal) → (crossing_of def at node).seen ≡ Err why → ⊥
 switch-made def at node k why e =
     let sound : bad_state node ≡ false = rw k in
     let plain : outermost_symbol node ≡ false = rw k in
-    let goes : advanced_of def at node ≡ To at = sound-state def at node sound ∙ early def at node (rw k (omega arith)) in
+    let goes : advanced_of def at node ≡ Ok at = sound-state def at node sound ∙ early def at node (rw k (omega arith)) in
     never (ap (λ (x : Crossing). x.seen) (sym (cross-moves def at node sound at at (sees_plain def at node plain) goes)) ∙ e)
 
 module _ (def : Bankdef) (walk : Walk) (node : Node) (bank : ℕ) where
@@ -89,15 +87,15 @@ module _ (def : Bankdef) (walk : Walk) (node : Node) (bank : ℕ) where
   abbrev pub here : Pos
   here = get_or walk.at bank origin
 
-  advance-put : (p : Pos) (s : Skipped) (m : Moved) → stepped_to walk bank p s m ≡ put_in walk bank (crossed_to here p s m)
-  advance-put p s (To q) = refl
-  advance-put p s (Refused why) = refl
+  advance-put : (p : Pos) (s : Skipped) (m : Result Pos Refusal) → stepped_to walk bank p s m ≡ put_in walk bank (crossed_to here p s m)
+  advance-put p s (Ok q) = refl
+  advance-put p s (Err why) = refl
 
-  sight-put : (m : Moved) → stepped_from def walk bank node m ≡ put_in walk bank (crossed_from def here node m)
-  sight-put (To p) = advance-put p (step_skips def here p node) (advanced_of def p node)
-  sight-put (Refused why) = refl
+  sight-put : (m : Result Pos Refusal) → stepped_from def walk bank node m ≡ put_in walk bank (crossed_from def here node m)
+  sight-put (Ok p) = advance-put p (step_skips def here p node) (advanced_of def p node)
+  sight-put (Err why) = refl
 
-  pub tests-put : (t u : Bool) (m : Moved) → let none = Malformed node.index in
+  pub tests-put : (t u : Bool) (m : Result Pos Refusal) → let none = Malformed node.index in
       pick (t || u) (stopped walk none) (stepped_from def walk bank node m)
       ≡ pick t (stopped walk none) (put_in walk bank (pick u (halted here none) (crossed_from def here node m)))
   tests-put true u m = refl

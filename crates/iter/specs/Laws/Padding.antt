@@ -1,13 +1,12 @@
 -- Laws that Theorems/Padding rests on.
-use Rattle.std.specs.Prelude.{ℕ, zero, suc, ◌/◌, ◌≡◌, Bool, eqb, get_or, set, replicate}
+use Rattle.std.specs.Prelude.{ℕ, zero, suc, ◌/◌, ◌≡◌, Bool, eqb, get_or, set, replicate, Ok, Err, Result, Option, None, Some}
 use Rattle.std.proofs.Math.Path.{refl}
 use Rattle.std.proofs.Common.{sym, ap, ◌∙◌}
 use Rattle.std.proofs.Math.Bool.{true, false}
 use Rattle.std.proofs.Math.Nat.{zero-div}
 use Rattle.prelude.specs.Pick.{pick}
-use Rattle.prelude.specs.declared.Opt.{Opt}
-use Rattle.prelude.specs.declared.Opt.TheVariants.{None, Some}
 use Rattle.prelude.specs.declared.Refusal.TheVariants.{Malformed}
+use Rattle.prelude.specs.declared.Refusal.{Refusal}
 use Rattle.bankdef.specs.declared.Bankdef.{Bankdef}
 use Rattle.iter.specs.Crossing.{crossing_of, halted, crossed_to, crossed_from}
 use Rattle.iter.specs.Distance.{tellable, address_in_bits, distance_to, skips_of, no_skip, distance_of}
@@ -15,10 +14,7 @@ use Rattle.iter.specs.Padding.{Part, the-bits, the-units, lost_part, skipped_par
 use Rattle.iter.specs.Step.{no_lost, outermost_symbol, seen_of, bad_state, advanced_of, skips_by, when_made}
 use Rattle.iter.specs.Step.{label_skips, seen_skips, advance_skips, sum_after, lost_after, step_skips}
 use Rattle.iter.specs.declared.Crossing.{Crossing}
-use Rattle.iter.specs.declared.Distance.TheVariants.{Skips, Refused as NoDistance}
 use Rattle.iter.specs.declared.Lost.{Lost}
-use Rattle.iter.specs.declared.Moved.{Moved}
-use Rattle.iter.specs.declared.Moved.TheVariants.{To, Refused}
 use Rattle.nodes.specs.declared.Node.{Node}
 use Rattle.iter.specs.declared.Pos.{Pos}
 use Rattle.iter.specs.declared.Skipped.{Skipped}
@@ -42,19 +38,19 @@ module _ (def : Bankdef) where
   unfolding distance_of
   whole-distance position a node = go (tellable def)
     where
-      go : (t : Bool) → Whole (skips_by (pick t (Skips (skips_of def (distance_to (address_in_bits def position) a))) (NoDistance (Malformed node))))
+      go : (t : Bool) → Whole (skips_by (pick t (Ok (skips_of def (distance_to (address_in_bits def position) a))) (Err (Malformed node))))
       go true = refl
       go false = whole-none
 
-  whole-made : (m : Moved) (s : Skipped) → Whole s → Whole (when_made m s)
-  whole-made (To p) s h = h
-  whole-made (Refused why) s h = whole-none
+  whole-made : (m : Result Pos Refusal) (s : Skipped) → Whole s → Whole (when_made m s)
+  whole-made (Ok p) s h = h
+  whole-made (Err why) s h = whole-none
 
   whole-pick : (t : Bool) (x y : Skipped) → Whole x → Whole y → Whole (pick t x y)
   whole-pick true x y h k = h
   whole-pick false x y h k = k
 
-  whole-label : (o : Opt) (at : Pos) (node : ℕ) → Whole (label_skips def o at node)
+  whole-label : (o : Option ℕ) (at : Pos) (node : ℕ) → Whole (label_skips def o at node)
   whole-label None at node = whole-none
   whole-label (Some a) at node = whole-distance at.position a node
 
@@ -71,18 +67,18 @@ module _ (def : Bankdef) where
   pub step-whole : (at p : Pos) (node : Node) → Whole (step_skips def at p node)
   step-whole at p node = whole-pick (eqb node.kind 8) (advance_skips def p node) (seen_skips def at node) (own-whole p node) (sight-whole at node)
 
-  whole-crossed : (at p : Pos) (s : Skipped) (m : Moved) → Whole s → Whole (crossed_to at p s m).skipped
-  whole-crossed at p s (To q) h = h
-  whole-crossed at p s (Refused why) h = whole-none
+  whole-crossed : (at p : Pos) (s : Skipped) (m : Result Pos Refusal) → Whole s → Whole (crossed_to at p s m).skipped
+  whole-crossed at p s (Ok q) h = h
+  whole-crossed at p s (Err why) h = whole-none
 
   crossing-whole : (at : Pos) (node : Node) → Whole (crossing_of def at node).skipped
   unfolding crossing_of
   crossing-whole at node = go (bad_state node) (seen_of def at node)
     where
-      go : (t : Bool) (m : Moved) → Whole (pick t (halted at (Malformed node.index)) (crossed_from def at node m)).skipped
+      go : (t : Bool) (m : Result Pos Refusal) → Whole (pick t (halted at (Malformed node.index)) (crossed_from def at node m)).skipped
       go true m = whole-none
-      go false (To p) = whole-crossed at p (step_skips def at p node) (advanced_of def p node) (step-whole at p node)
-      go false (Refused why) = whole-none
+      go false (Ok p) = whole-crossed at p (step_skips def at p node) (advanced_of def p node) (step-whole at p node)
+      go false (Err why) = whole-none
 
   -- a node that skips no bits skips nothing
   pub crossing-still : (at : Pos) (node : Node) {c : Crossing} → c ≡ crossing_of def at node → c.skipped.bits ≡ 0 → c.skipped ≡ no_skip

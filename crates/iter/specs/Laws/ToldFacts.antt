@@ -1,9 +1,10 @@
 -- Laws that Theorems/ToldFacts rests on.
-use Rattle.std.specs.Prelude.{ℕ, ◌+◌, ◌<◌, ◌≡◌, refl, Bool, true, not, eqb, leb}
+use Rattle.std.specs.Prelude.{ℕ, ◌+◌, ◌<◌, ◌≡◌, refl, Bool, true, not, eqb, leb, Result, Ok, Err}
 use Rattle.std.proofs.Common.{arith, leb-true, leb-false}
 use Rattle.std.proofs.lemmas.Bool.{eqb-false, not-true}
 use Rattle.prelude.specs.Laws.Bools.{either, both}
 use Rattle.prelude.specs.Limits.{max_position}
+use Rattle.prelude.specs.declared.Refusal.{Refusal}
 use Rattle.bankdef.specs.declared.Bankdef.{Bankdef}
 use Rattle.iter.specs.Distance.{tellable, no_skip, distance_of}
 use Rattle.iter.specs.Figures as told
@@ -11,11 +12,8 @@ use Rattle.iter.specs.Figures.{told_moved, Adds, Aligning}
 use Rattle.iter.specs.Figures.{Skipping}
 use Rattle.iter.specs.Step.{moved_by, moved_by_distance, aligned_to}
 use Rattle.iter.specs.Step.{skips_by, when_made}
-use Rattle.iter.specs.declared.Distance.{Distance}
-use Rattle.iter.specs.declared.Distance.TheVariants.{Skips, Refused as NoDistance}
-use Rattle.iter.specs.declared.Moved.{Moved}
-use Rattle.iter.specs.declared.Moved.TheVariants.{To, Refused}
 use Rattle.iter.specs.declared.Pos.{Pos}
+use Rattle.iter.specs.declared.Skipped.{Skipped}
 
 -- ---- the distance and the address
 
@@ -34,10 +32,10 @@ added at bits known node =
     (λ e. rw e (told.sum (leb-true (at.position + bits) max_position e)))
     (λ e. rw e (told.past (leb-false (at.position + bits) max_position e)))
 
-aligning-by : (def : Bankdef) (at : Pos) (a : ℕ) (known : Bool) (node : ℕ) (d : Distance) → distance_of def at.position a node ≡ d
+aligning-by : (def : Bankdef) (at : Pos) (a : ℕ) (known : Bool) (node : ℕ) (d : Result Skipped Refusal) → distance_of def at.position a node ≡ d
     → Aligning def at a known node (told_moved (moved_by_distance at d known node))
-aligning-by def at a known node (Skips s) e = told.by s e (added at s.bits known node)
-aligning-by def at a known node (NoDistance why) e = told.untold why e
+aligning-by def at a known node (Ok s) e = told.by s e (added at s.bits known node)
+aligning-by def at a known node (Err why) e = told.untold why e
 
 pub aligning-told : (def : Bankdef) (at : Pos) (a : ℕ) (known : Bool) (node : ℕ) → Aligning def at a known node (told_moved (aligned_to def at a known node))
 aligning-told def at a known node = aligning-by def at a known node (distance_of def at.position a node) refl
@@ -45,15 +43,15 @@ aligning-told def at a known node = aligning-by def at a known node (distance_of
 -- ---- what is skipped
 
 -- a move that skips nothing skips nothing, made or refused
-pub none-skipped : (m : Moved) → when_made m no_skip ≡ no_skip
-none-skipped (To p) = refl
-none-skipped (Refused why) = refl
+pub none-skipped : (m : Result Pos Refusal) → when_made m no_skip ≡ no_skip
+none-skipped (Ok p) = refl
+none-skipped (Err why) = refl
 
 module _ (def : Bankdef) (at : Pos) (a node : ℕ) where
-  skipping-by : (m : Moved) (d : Distance) → distance_of def at.position a node ≡ d → Skipping def at a node m (when_made m (skips_by d))
-  skipping-by (To p) (Skips s) e = told.by e
-  skipping-by (To p) (NoDistance why) e = told.untold why e
-  skipping-by (Refused why) d e = told.refused
+  skipping-by : (m : Result Pos Refusal) (d : Result Skipped Refusal) → distance_of def at.position a node ≡ d → Skipping def at a node m (when_made m (skips_by d))
+  skipping-by (Ok p) (Ok s) e = told.by e
+  skipping-by (Ok p) (Err why) e = told.untold why e
+  skipping-by (Err why) d e = told.refused
 
-  pub skipping-told : (m : Moved) → Skipping def at a node m (when_made m (skips_by (distance_of def at.position a node)))
+  pub skipping-told : (m : Result Pos Refusal) → Skipping def at a node m (when_made m (skips_by (distance_of def at.position a node)))
   skipping-told m = skipping-by m (distance_of def at.position a node) refl

@@ -1,30 +1,26 @@
 -- Laws that Theorems/WithinLimit rests on.
-use Rattle.std.specs.Prelude.{ℕ, zero, suc, ◌+◌, ◌≤◌, ◌≡◌, refl, Bool, true, false, List, [], ◌∷◌, leb, get_or, set, replicate}
+use Rattle.std.specs.Prelude.{ℕ, zero, suc, ◌+◌, ◌≤◌, ◌≡◌, refl, Bool, true, false, List, [], ◌∷◌, leb, get_or, set, replicate, Result, Ok, Err, Option, None, Some}
 use Rattle.std.proofs.Common.{zero-le, leb-true}
 use Rattle.prelude.specs.Limits.{max_position}
 use Rattle.prelude.specs.Pick.{pick}
-use Rattle.prelude.specs.declared.Opt.{Opt}
-use Rattle.prelude.specs.declared.Opt.TheVariants.{None, Some}
+use Rattle.prelude.specs.declared.Refusal.{Refusal}
 use Rattle.bankdef.specs.declared.Bankdef.{Bankdef}
 use Rattle.iter.specs.Distance.{distance_of}
 use Rattle.iter.specs.Step.{origin, moved_by, moved_by_distance, aligned_to, outermost_symbol, label_aligned, seen_of, bad_state}
 use Rattle.iter.specs.Step.{moved_on, advanced_of}
-use Rattle.iter.specs.declared.Distance.{Distance}
-use Rattle.iter.specs.declared.Distance.TheVariants.{Skips, Refused as NoDistance}
 use Rattle.iter.specs.declared.Pos.{Pos}
 use Rattle.nodes.specs.Kinds.{does_of}
 use Rattle.nodes.specs.Laws.Kinds.{in-each}
 use Rattle.nodes.specs.declared.Node.{Node}
-use Rattle.iter.specs.declared.Moved.{Moved}
-use Rattle.iter.specs.declared.Moved.TheVariants.{To, Refused}
 use Rattle.iter.specs.WithinLimit.{Small}
+use Rattle.iter.specs.declared.Skipped.{Skipped}
 
 -- a position that is seen or moved to is within the limit
-abbrev pub Within : Moved → Type 0
-Within (To p) = Small p
-Within (Refused why) = Unit
+abbrev pub Within : Result Pos Refusal → Type 0
+Within (Ok p) = Small p
+Within (Err why) = Unit
 
-either : (P : Moved → Type 0) (b : Bool) (x y : Moved) → (b ≡ true → P x) → (b ≡ false → P y) → P (pick b x y)
+either : (P : Result Pos Refusal → Type 0) (b : Bool) (x y : Result Pos Refusal) → (b ≡ true → P x) → (b ≡ false → P y) → P (pick b x y)
 either P true x y f g = f refl
 either P false x y f g = g refl
 
@@ -32,14 +28,14 @@ moved-within : (at : Pos) (bits : ℕ) (known : Bool) (node : ℕ) → Within (m
 moved-within at bits known node =
     either Within (leb (at.position + bits) max_position) _ _ (leb-true (at.position + bits) max_position) (λ e. tt)
 
-by-distance : (at : Pos) (x : Distance) (known : Bool) (node : ℕ) → Within (moved_by_distance at x known node)
-by-distance at (Skips s) known node = moved-within at s.bits known node
-by-distance at (NoDistance why) known node = tt
+by-distance : (at : Pos) (x : Result Skipped Refusal) (known : Bool) (node : ℕ) → Within (moved_by_distance at x known node)
+by-distance at (Ok s) known node = moved-within at s.bits known node
+by-distance at (Err why) known node = tt
 
 aligned-within : (def : Bankdef) (at : Pos) (a : ℕ) (known : Bool) (node : ℕ) → Within (aligned_to def at a known node)
 aligned-within def at a known node = by-distance at (distance_of def at.position a node) known node
 
-label-within : (def : Bankdef) (o : Opt) (at : Pos) (node : ℕ) → Small at → Within (label_aligned def o at node)
+label-within : (def : Bankdef) (o : Option ℕ) (at : Pos) (node : ℕ) → Small at → Within (label_aligned def o at node)
 label-within def None at node h = h
 label-within def (Some a) at node h = aligned-within def at a at.known node
 

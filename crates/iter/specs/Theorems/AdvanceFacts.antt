@@ -1,5 +1,5 @@
 -- Theorems about what AdvanceFacts defines.
-use Rattle.std.specs.Prelude.{ℕ, ◌+◌, ◌≤◌, ◌<◌, ◌≡◌, Bool, true, false, ◌⊎◌, ◌↔◌}
+use Rattle.std.specs.Prelude.{ℕ, ◌+◌, ◌≤◌, ◌<◌, ◌≡◌, Bool, true, false, ◌⊎◌, ◌↔◌, Ok, Result, Some, Option}
 use Rattle.std.proofs.Common.{sym, subst, ◌∙◌, inl, inr, arith}
 use Rattle.std.proofs.Math.Path.{ap}
 use Rattle.std.proofs.lemmas.Bool.{lt-leb}
@@ -7,9 +7,8 @@ use Rattle.prelude.specs.Limits.{max_position}
 use Rattle.prelude.specs.Laws.Pick.{pick_true, pick-false}
 use Rattle.prelude.specs.Told.{Told, gives, refuses, told_number}
 use Rattle.prelude.specs.Theorems.Told.{number-some}
-use Rattle.prelude.specs.declared.Opt.{Opt}
-use Rattle.prelude.specs.declared.Opt.TheVariants.{Some}
 use Rattle.prelude.specs.declared.Place.TheVariants.{One}
+use Rattle.prelude.specs.declared.Refusal.{Refusal}
 use Rattle.bankdef.specs.declared.Bankdef.{Bankdef}
 use Rattle.iter.specs.Theorems.Advance.{sound-state, item, aligning}
 use Rattle.iter.specs.Distance.{distance_of}
@@ -18,10 +17,7 @@ use Rattle.iter.specs.Figures.{told_moved, OuterSymbol, SoundState, Sees, Advanc
 use Rattle.iter.specs.Known.{stays_known}
 use Rattle.iter.specs.Step.{moved_by_distance, label_aligned, seen_of, bad_state, advanced_of}
 use Rattle.iter.specs.Theorems.ToldFacts.{outer-symbol, sight-told, advance-told}
-use Rattle.iter.specs.declared.Distance.{Distance}
-use Rattle.iter.specs.declared.Distance.TheVariants.{Skips}
 use Rattle.iter.specs.declared.Skipped.{Skipped}
-use Rattle.iter.specs.declared.Moved.TheVariants.{To}
 use Rattle.nodes.specs.declared.Node.{Node}
 use Rattle.iter.specs.declared.Pos.{Pos}
 use Rattle.iter.specs.AdvanceFacts.{AddsBits, Moves, PassesLimit, SightPasses, distance, number}
@@ -76,7 +72,7 @@ module _ (def : Bankdef) (at : Pos) (node : Node) (q : Pos) where
       left (inl f) = ap (λ (p : Pos). p.known) (sym e) ∙ keeps.leaves f
       left (inr s) = absurd (still-apart h (omega arith) s)
 
-  aligned : (known : Bool) (s : Skipped) → node.kind ≡ 8 → distance_of def at.position node.number node.index ≡ Skips s
+  aligned : (known : Bool) (s : Skipped) → node.kind ≡ 8 → distance_of def at.position node.number node.index ≡ Ok s
       → told.Keeps at.known node known → record { position = at.position + s.bits; known = known } ≡ q → Moves def at node q
   aligned known d k f keeps e = record {
     adds-number = λ h l. absurd (omega arith);
@@ -100,7 +96,7 @@ module _ (def : Bankdef) (at : Pos) (node : Node) (q : Pos) where
     sets-known = λ k. subst (λ (p : Pos). (p.known ≡ true) ↔ (node.state ≡ 0)) e sets;
   }
 
-  by-sum : (known : Bool) (d : Skipped) {t : Told Pos} → node.kind ≡ 8 → distance_of def at.position node.number node.index ≡ Skips d
+  by-sum : (known : Bool) (d : Skipped) {t : Told Pos} → node.kind ≡ 8 → distance_of def at.position node.number node.index ≡ Ok d
       → told.Keeps at.known node known → told.Adds at d.bits known node.index t → t ≡ gives q → Moves def at node q
   by-sum known d k f keeps (told.sum l) e = aligned known d k f keeps (gives_same e)
   by-sum known d k f keeps (told.past l) e = absurd (never-gives (omega arith) e)
@@ -116,12 +112,12 @@ module _ (def : Bankdef) (at : Pos) (node : Node) (q : Pos) where
   from (told.sets s k known sets) e = setting known k sets (gives_same e)
 
   -- An advance that is made leads where document 01 says, and is known when it says.
-  pub advance-moves : advanced_of def at node ≡ To q → Moves def at node q
+  pub advance-moves : advanced_of def at node ≡ Ok q → Moves def at node q
   advance-moves e = from (advance-told def at node) (ap told_moved e)
 
 module _ (def : Bankdef) (at : Pos) (node : Node) where
   past-by : (known : Bool) (d : Skipped) {t : Told Pos} → SoundState node → node.kind ≡ 8
-      → distance_of def at.position node.number node.index ≡ Skips d → told.Adds at d.bits known node.index t → told_number t ≡ 5 → PassesLimit def at node
+      → distance_of def at.position node.number node.index ≡ Ok d → told.Adds at d.bits known node.index t → told_number t ≡ 5 → PassesLimit def at node
   past-by known d s k f (told.sum l) e = absurd (omega arith)
   past-by known d s k f (told.past l) e = record { sound = s; bits = d.bits; adds = distance k d f; past = l }
 
@@ -147,14 +143,14 @@ module _ (def : Bankdef) (at : Pos) (node : Node) where
       ap told_moved (sound-state def at node s ∙ item def at node h k ∙ pick-false _ _ (lt-leb (at.position + node.number) max_position l))
   past_of (distance k d f) s l =
       ap told_moved (sound-state def at node s ∙ aligning def at node k
-      ∙ ap (λ (x : Distance). moved_by_distance at x (stays_known at.known node) node.index) f
+      ∙ ap (λ (x : Result Skipped Refusal). moved_by_distance at x (stays_known at.known node) node.index) f
       ∙ pick-false _ _ (lt-leb (at.position + d.bits) max_position l))
 
   -- and wherever they do, with the node as its place.
   pub advance-five-when : PassesLimit def at node → told_moved (advanced_of def at node) ≡ refuses 5 (One node.index)
   advance-five-when p = past_of p.adds (sound-test node p.sound) p.past
 
-  sight-by : (a : ℕ) (d : Skipped) {t : Told Pos} → OuterSymbol node → def.align ≡ Some a → distance_of def at.position a node.index ≡ Skips d
+  sight-by : (a : ℕ) (d : Skipped) {t : Told Pos} → OuterSymbol node → def.align ≡ Some a → distance_of def at.position a node.index ≡ Ok d
       → told.Adds at d.bits at.known node.index t → told_number t ≡ 5 → SightPasses def at node
   sight-by a d s f g (told.sum l) e = absurd (omega arith)
   sight-by a d s f g (told.past l) e = record { symbol = s; align = a; has-align = f; skips = d; has-skips = g; past = l }
@@ -174,6 +170,6 @@ module _ (def : Bankdef) (at : Pos) (node : Node) where
   unfolding seen_of
   sight-five-when p =
       ap told_moved (pick_true _ _ ((outer-symbol node).1 p.symbol)
-      ∙ ap (λ (o : Opt). label_aligned def o at node.index) p.has-align
-      ∙ ap (λ (x : Distance). moved_by_distance at x at.known node.index) p.has-skips
+      ∙ ap (λ (o : Option ℕ). label_aligned def o at node.index) p.has-align
+      ∙ ap (λ (x : Result Skipped Refusal). moved_by_distance at x at.known node.index) p.has-skips
       ∙ pick-false _ _ (lt-leb (at.position + p.skips.bits) max_position p.past))

@@ -1,5 +1,5 @@
 -- Theorems about what Aligned defines.
-use Rattle.std.specs.Prelude.{ℕ, suc, ◌+◌, ◌-◌, ◌*◌, ◌/◌, ◌%◌, ◌<◌, ◌≡◌, refl, true, false, eqb, ℤ, pos, negsuc, neg_ℤ, ◌+ℤ◌}
+use Rattle.std.specs.Prelude.{ℕ, suc, ◌+◌, ◌-◌, ◌*◌, ◌/◌, ◌%◌, ◌<◌, ◌≡◌, refl, true, false, eqb, ℤ, pos, negsuc, neg_ℤ, ◌+ℤ◌, Err, Ok}
 use Rattle.std.proofs.Common.{sym, ap, subst, ◌∙◌, mod-lt, mod-eq_of_lt, div-add-mod', suc-mul, arith, eqb-true, ne_eqb}
 use Rattle.std.proofs.Math.Nat.{mod_self}
 use Rattle.std.proofs.Math.IntN.{sub_ℕ}
@@ -10,7 +10,6 @@ use Rattle.prelude.specs.declared.Refusal.TheVariants.{Malformed}
 use Rattle.bankdef.specs.declared.Bankdef.{Bankdef}
 use Rattle.iter.specs.Distance.{tellable, address_in_bits, gap, remainder, distance_to, skips_of, no_skip, distance_of}
 use Rattle.iter.specs.Laws.Signs.{neg-plus}
-use Rattle.iter.specs.declared.Distance.TheVariants.{Skips, Refused}
 use Rattle.iter.specs.declared.Skipped.{Skipped}
 use Rattle.iter.specs.Aligned.{Aligns, Remains}
 use Rattle.iter.specs.Laws.Aligned.{above, below-zero, less, m, neg-times, never, none_in, nonzero, skips-same}
@@ -68,23 +67,23 @@ remainder-remains (negsuc n) a h =
 
 module _ (def : Bankdef) (position a node : ℕ) where
   -- 4 is given exactly for a bank whose addresses cannot be told.
-  pub four-when : tellable def ≡ false → distance_of def position a node ≡ Refused (Malformed node)
+  pub four-when : tellable def ≡ false → distance_of def position a node ≡ Err (Malformed node)
   unfolding distance_of
   four-when e = pick-false _ _ e
 
-  pub told-when : tellable def ≡ true → distance_of def position a node ≡ Skips (skips_of def (distance_to (address_in_bits def position) a))
+  pub told-when : tellable def ≡ true → distance_of def position a node ≡ Ok (skips_of def (distance_to (address_in_bits def position) a))
   unfolding distance_of
   told-when e = pick_true _ _ e
 
-  pub to_none : tellable def ≡ true → a ≡ 0 → distance_of def position a node ≡ Skips no_skip
-  to_none e z = told-when e ∙ ap (λ (x : ℕ). Skips (skips_of def (distance_to (address_in_bits def position) x))) z
-      ∙ ap (λ (s : Skipped). Skips s) (none_in def)
+  pub to_none : tellable def ≡ true → a ≡ 0 → distance_of def position a node ≡ Ok no_skip
+  to_none e z = told-when e ∙ ap (λ (x : ℕ). Ok (skips_of def (distance_to (address_in_bits def position) x))) z
+      ∙ ap (λ (s : Skipped). Ok s) (none_in def)
 
-  pub to_some : tellable def ≡ true → (a ≡ 0 → ⊥) → distance_of def position a node ≡ Skips (skips_of def (gap (remainder (address_in_bits def position) a) a))
-  to_some e n = told-when e ∙ ap (λ (d : ℕ). Skips (skips_of def d)) (pick-false _ _ (ne_eqb a 0 n))
+  pub to_some : tellable def ≡ true → (a ≡ 0 → ⊥) → distance_of def position a node ≡ Ok (skips_of def (gap (remainder (address_in_bits def position) a) a))
+  to_some e n = told-when e ∙ ap (λ (d : ℕ). Ok (skips_of def d)) (pick-false _ _ (ne_eqb a 0 n))
 
   -- A distance that is told is the one that aligns.
-  pub told-aligns : (s : Skipped) → 0 < a → distance_of def position a node ≡ Skips s → Aligns (address_in_bits def position) a s.bits
+  pub told-aligns : (s : Skipped) → 0 < a → distance_of def position a node ≡ Ok s → Aligns (address_in_bits def position) a s.bits
   told-aligns s h e =
       either (tellable def)
       (λ t. subst (λ (x : Skipped). Aligns (address_in_bits def position) a x.bits) (skips-same (sym (told-when t) ∙ e)) (distance-aligns

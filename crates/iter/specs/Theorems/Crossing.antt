@@ -1,5 +1,5 @@
 -- Theorems about what Crossing defines.
-use Rattle.std.specs.Prelude.{ℕ, ◌+◌, ◌^◌, ◌<◌, ◌≡◌, refl, List, leb, eqb, get_or, set}
+use Rattle.std.specs.Prelude.{ℕ, ◌+◌, ◌^◌, ◌<◌, ◌≡◌, refl, List, leb, eqb, get_or, set, Result, Ok, Err}
 use Rattle.std.proofs.Common.{sym, ap, ◌∙◌, arith, le-leb, eqb-true}
 use Rattle.std.proofs.lemmas.List.{set-get_or}
 use Rattle.std.proofs.lemmas.Bool.{lt-leb, eqb-false}
@@ -8,6 +8,7 @@ use Rattle.prelude.specs.Limits.{max_banks}
 use Rattle.prelude.specs.Pick.{pick}
 use Rattle.prelude.specs.Laws.Pick.{pick_true, pick-false}
 use Rattle.prelude.specs.declared.Refusal.TheVariants.{Malformed}
+use Rattle.prelude.specs.declared.Refusal.{Refusal}
 use Rattle.bankdef.specs.declared.Bankdef.{Bankdef}
 use Rattle.iter.specs.Padding.{Fits, the-bits, the-units}
 use Rattle.iter.specs.Distance.{no_skip}
@@ -15,8 +16,6 @@ use Rattle.iter.specs.Step.{origin, no_lost, seen_of, bad_state, bank_after, max
 use Rattle.iter.specs.Theorems.StepFacts.{stands-in}
 use Rattle.iter.specs.declared.Crossing.{Crossing}
 use Rattle.iter.specs.declared.Lost.{Lost}
-use Rattle.iter.specs.declared.Moved.{Moved}
-use Rattle.iter.specs.declared.Moved.TheVariants.{To, Refused}
 use Rattle.nodes.specs.declared.Node.{Node}
 use Rattle.iter.specs.declared.Pos.{Pos}
 use Rattle.iter.specs.declared.Stepped.{Stepped}
@@ -58,9 +57,9 @@ module _ (def : Bankdef) (walk : Walk) (node : Node) {bank : ℕ} (b : bank ≡ 
     pub crossing-sees : (step_of def walk node).seen ≡ c.seen
     crossing-sees = ap (λ (s : Stepped). s.seen) crossing-in ∙ put-seen c.seen
       where
-        put-seen : (m : Moved) → (put_by walk bank c m).seen ≡ m
-        put-seen (To p) = refl
-        put-seen (Refused why) = refl
+        put-seen : (m : Result Pos Refusal) → (put_by walk bank c m).seen ≡ m
+        put-seen (Ok p) = refl
+        put-seen (Err why) = refl
 
     -- what the bank has lost before
     abbrev was : Lost
@@ -82,9 +81,9 @@ module _ (def : Bankdef) (walk : Walk) (node : Node) {bank : ℕ} (b : bank ≡ 
               bank = k;
             }) x
 
-        put-kept : (m : Moved) → c.seen ≡ m → (put_by walk bank c m).walk ≡ kept walk bank c.after c.skipped
-        put-kept (To p) f = refl
-        put-kept (Refused why) f =
+        put-kept : (m : Result Pos Refusal) → c.seen ≡ m → (put_by walk bank c m).walk ≡ kept walk bank c.after c.skipped
+        put-kept (Ok p) f = refl
+        put-kept (Err why) f =
             let stays = halts def (get_or walk.at bank origin) node why e f in
             let none = halts-skip def (get_or walk.at bank origin) node why e f in
             let stood : walk.bank ≡ bank =

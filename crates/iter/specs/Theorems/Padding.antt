@@ -1,5 +1,5 @@
 -- Theorems about what Padding defines.
-use Rattle.std.specs.Prelude.{ℕ, ◌+◌, ◌/◌, ◌^◌, ◌<◌, ◌≡◌, refl}
+use Rattle.std.specs.Prelude.{ℕ, ◌+◌, ◌/◌, ◌^◌, ◌<◌, ◌≡◌, refl, Ok}
 use Rattle.std.proofs.Common.{sym, ap, subst, ◌∙◌, arith, le-leb}
 use Rattle.prelude.specs.Laws.Bools.{either}
 use Rattle.prelude.specs.Limits.{max_banks}
@@ -10,7 +10,6 @@ use Rattle.iter.specs.Laws.Aligned.{skips-same, never}
 use Rattle.iter.specs.Distance.{tellable, distance_of}
 use Rattle.iter.specs.Step.{start_of}
 use Rattle.iter.specs.Step.{max_sum, sum_after}
-use Rattle.iter.specs.declared.Distance.TheVariants.{Skips}
 use Rattle.iter.specs.declared.Lost.{Lost}
 use Rattle.nodes.specs.declared.Node.{Node}
 use Rattle.iter.specs.declared.Skipped.{Skipped}
@@ -21,7 +20,7 @@ use Rattle.iter.specs.Padding.{Part, the-bits, the-units, lost_in}
 -- ---- units
 
 -- "distance over unit, rounded down"
-pub units-over-unit : (def : Bankdef) (position a node : ℕ) (s : Skipped) → distance_of def position a node ≡ Skips s → s.units ≡ s.bits / def.unit
+pub units-over-unit : (def : Bankdef) (position a node : ℕ) (s : Skipped) → distance_of def position a node ≡ Ok s → s.units ≡ s.bits / def.unit
 units-over-unit def position a node s e =
     either (tellable def)
     (λ t. subst (λ (x : Skipped). x.units ≡ x.bits / def.unit) (skips-same (sym (told-when def position a node t) ∙ e)) refl)

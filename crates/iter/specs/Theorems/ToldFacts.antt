@@ -1,6 +1,6 @@
 -- The definitions of distance, address, sight and advance say what specs/Figures has, case by case; and 5 is given exactly when a sum
 -- passes the limit.
-use Rattle.std.specs.Prelude.{ℕ, ◌/◌, ◌<◌, ◌≡◌, Bool, true, false, ◌||◌, ◌⊎◌, ◌↔◌, eqb, ltb, leb}
+use Rattle.std.specs.Prelude.{ℕ, ◌/◌, ◌<◌, ◌≡◌, Bool, true, false, ◌||◌, ◌⊎◌, ◌↔◌, eqb, ltb, leb, Ok, Err, Result, ℤ, Option, None, Some}
 use Rattle.std.proofs.Math.Path.{refl}
 use Rattle.std.proofs.Common.{sym, subst, ◌∙◌, inl, inr, suc-mul, div-mul-le_self, arith, ltb-true, ltb-false, leb-true, eqb-true, eq-eqb, ne_eqb, le-leb}
 use Rattle.std.proofs.Math.Nat.{zero-div, lt-div-mul-add}
@@ -8,9 +8,8 @@ use Rattle.std.proofs.lemmas.Bool.{eqb-false}
 use Rattle.prelude.specs.Laws.Bools.{either, clash, both}
 use Rattle.prelude.specs.Pick.{pick}
 use Rattle.prelude.specs.Laws.Pick.{pick_true, pick-false}
-use Rattle.prelude.specs.declared.Opt.{Opt}
-use Rattle.prelude.specs.declared.Opt.TheVariants.{None, Some}
 use Rattle.prelude.specs.declared.Refusal.TheVariants.{Malformed}
+use Rattle.prelude.specs.declared.Refusal.{Refusal}
 use Rattle.bankdef.specs.declared.Bankdef.{Bankdef}
 use Rattle.iter.specs.Address.{units_from, address_of}
 use Rattle.iter.specs.Theorems.Advance.{bad-state, sound-state, early, item, aligning, setting, asserting, other}
@@ -22,14 +21,10 @@ use Rattle.iter.specs.Figures.{SoundState, Advances, SightSkips, OwnSkips}
 use Rattle.iter.specs.Known.{stays_known}
 use Rattle.iter.specs.Step.{outermost_symbol, label_aligned, seen_of, resolved, bad_state, moved_on, advanced_of}
 use Rattle.iter.specs.Step.{when_made, label_skips, seen_skips, advance_skips}
-use Rattle.iter.specs.declared.Distance.{Distance}
-use Rattle.iter.specs.declared.Distance.TheVariants.{Skips, Refused as NoDistance}
-use Rattle.iter.specs.declared.Address.{Address}
-use Rattle.iter.specs.declared.Address.TheVariants.{At, Refused as NoAddress}
-use Rattle.iter.specs.declared.Moved.{Moved}
 use Rattle.nodes.specs.declared.Node.{Node}
 use Rattle.iter.specs.declared.Pos.{Pos}
 use Rattle.iter.specs.Laws.ToldFacts.{added, aligning-told, has-unit, none-skipped, skipping-told}
+use Rattle.iter.specs.declared.Skipped.{Skipped}
 
 -- The quotient is the count of whole units.
 pub whole-units : (unit bits : ℕ) → 0 < unit → WholeUnits unit bits (bits / unit)
@@ -38,7 +33,7 @@ whole-units unit bits h =
 
 module _ (def : Bankdef) (position a node : ℕ) where
   measured : (t : Bool) → tellable def ≡ t
-      → Measures def position a node (told_distance (pick t (Skips (skips_of def (distance_to (address_in_bits def position) a))) (NoDistance (Malformed node))))
+      → Measures def position a node (told_distance (pick t (Ok (skips_of def (distance_to (address_in_bits def position) a))) (Err (Malformed node))))
   measured false e = told.malformed e
   measured true e =
       either (eqb a 0)
@@ -52,20 +47,20 @@ module _ (def : Bankdef) (position a node : ℕ) where
   unfolding distance_of
   distance-told = measured (tellable def) refl
 
-  pub distance-answers : {r : Distance} → r ≡ distance_of def position a node
+  pub distance-answers : {r : Result Skipped Refusal} → r ≡ distance_of def position a node
       → (r ≡ distance_of def position a node) × Measures def position a node (told_distance r)
-  distance-answers e = (e, subst (λ (r : Distance). Measures def position a node (told_distance r)) (sym e) distance-told)
+  distance-answers e = (e, subst (λ (r : Result Skipped Refusal). Measures def position a node (told_distance r)) (sym e) distance-told)
 
 module _ (def : Bankdef) (position node : ℕ) where
-  pub address-when : tellable def ≡ true → address_of def position node ≡ At (units_from def position)
+  pub address-when : tellable def ≡ true → address_of def position node ≡ Ok (units_from def position)
   unfolding address_of
   address-when e = pick_true _ _ e
 
-  pub address-four : tellable def ≡ false → address_of def position node ≡ NoAddress (Malformed node)
+  pub address-four : tellable def ≡ false → address_of def position node ≡ Err (Malformed node)
   unfolding address_of
   address-four e = pick-false _ _ e
 
-  stood : (t : Bool) → tellable def ≡ t → Stands def position node (told_address (pick t (At (units_from def position)) (NoAddress (Malformed node))))
+  stood : (t : Bool) → tellable def ≡ t → Stands def position node (told_address (pick t (Ok (units_from def position)) (Err (Malformed node))))
   stood true e = told.at e
   stood false e = told.malformed e
 
@@ -74,8 +69,8 @@ module _ (def : Bankdef) (position node : ℕ) where
   unfolding address_of
   address-told = stood (tellable def) refl
 
-  pub address-answers : {r : Address} → r ≡ address_of def position node → (r ≡ address_of def position node) × Stands def position node (told_address r)
-  address-answers e = (e, subst (λ (r : Address). Stands def position node (told_address r)) (sym e) address-told)
+  pub address-answers : {r : Result ℤ Refusal} → r ≡ address_of def position node → (r ≡ address_of def position node) × Stands def position node (told_address r)
+  address-answers e = (e, subst (λ (r : Result ℤ Refusal). Stands def position node (told_address r)) (sym e) address-told)
 
 -- ---- what a node sees
 
@@ -97,7 +92,7 @@ outer-symbol node = (
     symbol (inr k) o = rw (k, o)
 
 module _ (def : Bankdef) (at : Pos) (node : Node) where
-  by-label : (o : Opt) → def.align ≡ o → OuterSymbol node → Sees def at node (told_moved (label_aligned def o at node.index))
+  by-label : (o : Option ℕ) → def.align ≡ o → OuterSymbol node → Sees def at node (told_moved (label_aligned def o at node.index))
   by-label None e s = told.unaligned e
   by-label (Some a) e s = told.aligned s a e (aligning-told def at a at.known node.index)
 
@@ -109,7 +104,7 @@ module _ (def : Bankdef) (at : Pos) (node : Node) where
       (λ e. rw e (by-label def.align refl ((outer-symbol node).0 e)))
       (λ e. rw e (told.other (λ s. clash ((outer-symbol node).1 s) e)))
 
-  by-alignment : (o : Opt) → def.align ≡ o → OuterSymbol node → (m : Moved)
+  by-alignment : (o : Option ℕ) → def.align ≡ o → OuterSymbol node → (m : Result Pos Refusal)
       → SightSkips def at node m (when_made m (label_skips def o at node.index))
   by-alignment None e s m = rw (none-skipped m) (told.unaligned e)
   by-alignment (Some a) e s m = told.aligned s a e (skipping-told def at a node.index m)
@@ -143,8 +138,8 @@ sound-of node e h =
     (λ t. ltb-false 2 node.state t)
 
 module _ (def : Bankdef) (at : Pos) (node : Node) where
-  told-as : {m : Moved} → advanced_of def at node ≡ m → Advances def at node (told_moved m) → Advances def at node (told_moved (advanced_of def at node))
-  told-as e h = subst (λ (m : Moved). Advances def at node (told_moved m)) (sym e) h
+  told-as : {m : Result Pos Refusal} → advanced_of def at node ≡ m → Advances def at node (told_moved m) → Advances def at node (told_moved (advanced_of def at node))
+  told-as e h = subst (λ (m : Result Pos Refusal). Advances def at node (told_moved m)) (sym e) h
 
   by_kind : SoundState node → advanced_of def at node ≡ moved_on def at node → Advances def at node (told_moved (advanced_of def at node))
   by_kind s e =

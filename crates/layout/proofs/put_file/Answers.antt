@@ -1,7 +1,7 @@
 -- `put_file` meets its contract: there is room for every report (`every-report-fits`), so that the text is never too short, and the sentences say it
 -- (`report-meets`).
+use Rattle.std.specs.Prelude.{Option}
 use Rattle.std.proofs.Common.{◌≤◌, ◌<◌, ◌∙◌, ℕ, List, sym, arith, length, get_or}
-use Rattle.prelude.specs.declared.Opt.{Opt}
 use Rattle.prog_args.specs.Laws.Text.{never-short, to_same, put-ends, put-stands}
 use Rattle.print_report.specs.Report.{report_text}
 use Rattle.print_report.specs.Room.{report_room}
@@ -11,7 +11,7 @@ use Rattle.meets_report.specs.Laws.Handed.{stands-shows}
 use Rattle.meets_report.specs.Theorems.Meets.{report-meets}
 use Rattle.layout.proofs.put_file.Goals as goal
 
-room : (file : List ℕ) (fill : ℕ) (page : Opt) (text : List ℕ) → ((i : ℕ) → get_or file i 0 < 256) → report_room ≤ length text
+room : (file : List ℕ) (fill : ℕ) (page : Option ℕ) (text : List ℕ) → ((i : ℕ) → get_or file i 0 < 256) → report_room ≤ length text
     → length (report_text file fill page) ≤ length text
 room file fill page text bytes h = omega (arith, every-report-fits file fill page bytes, h)
 
@@ -27,5 +27,5 @@ returns c =
     let bytes : (i : ℕ) → get_or a.file.now i 0 < 256 = λ i. (c.type_inv.file i).fits in
     let fits = room a.file.now a.fill a.page a.text.now bytes c.requires in
     stands-shows (ReportSays a.file.now a.fill a.page)
-    (put-stands c.report.ensures fits (to_same (sym c.in-To.is ∙ put-ends c.report.ensures fits)))
+    (put-stands c.report.ensures fits (to_same (sym c.in-Some.is ∙ put-ends c.report.ensures fits)))
     (report-meets a.file.now bytes a.fill a.page)

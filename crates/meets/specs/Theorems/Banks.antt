@@ -1,11 +1,10 @@
 -- `bankdef::check`: the definition says the sentences of Banks (`check-meets`), and they leave one answer (`check-decides`).
-use Rattle.std.specs.Prelude.{◌≡◌, refl, true, false, List, ℕ, ◌≤◌, ◌<◌, min, leb, length, get_or}
+use Rattle.std.specs.Prelude.{◌≡◌, refl, true, false, List, ℕ, ◌≤◌, ◌<◌, min, leb, length, get_or, Some}
 use Rattle.std.proofs.Common.{sym, ap, ◌∙◌, inl, inr, ⊎_elim, arith, leb-true, leb-false, length-take, get_or-take}
 use Rattle.prelude.specs.Laws.Bools.{either, both}
 use Rattle.prelude.specs.Told.{gives, refuses, nothing, told_verdict}
-use Rattle.prelude.specs.declared.Opt.TheVariants.{Some}
 use Rattle.prelude.specs.declared.Place.TheVariants.{One, Two}
-use Rattle.prelude.specs.declared.Verdict.{Verdict}
+use Rattle.prelude.specs.Verdict.{Verdict}
 use Rattle.bankdef.specs.declared.Bankdef.{Bankdef}
 use Rattle.bankdef.specs.declared.Bankdefs.{Bankdefs}
 use Rattle.bankdef.specs.Check.{no_bank, banks_of, count_sound, check_of}

@@ -1,6 +1,6 @@
 -- Blocks: what `blocks::get_blocks` promises, its answer in numbers, says the sentences of `dk_blocks` (`blocks-meets`), and they leave one outcome, the
 -- answer and both lists lent for it (`blocks-decides`).
-use Rattle.std.specs.Prelude.{◌≡◌, false, ◌⊎◌, leb, eqb, length, get_or, drop}
+use Rattle.std.specs.Prelude.{◌≡◌, false, ◌⊎◌, leb, eqb, length, get_or, drop, Some, Result, Ok, Err}
 use Rattle.std.proofs.Math.Path.{refl, fun_ext}
 use Rattle.std.proofs.Common.{sym, ap, ◌∙◌, inl, inr, suc-ne-zero, arith, drop_of_length-le, drop-cons}
 use mathlib.Core.List.{List, [], ◌∷◌, ◌++◌, map, tail}
@@ -13,15 +13,13 @@ use Rattle.std.proofs.Math.ListN.{get_or-map}
 use Rattle.prelude.specs.Laws.Bools.{either, clash, unlike}
 use Rattle.prelude.specs.Refusals.{number_of, place_of}
 use Rattle.prelude.specs.Told.{gives, refuses}
-use Rattle.prelude.specs.declared.Offset.TheVariants.{At as Placed}
 use Rattle.prelude.specs.declared.Place.TheVariants.{One}
+use Rattle.prelude.specs.declared.Refusal.{Refusal}
 use Rattle.sort.proofs.Agree.{sorted-map}
 use Rattle.sort.specs.Numbers.{numbers_from, numbers_of, key_at, order}
 use Rattle.sort.specs.Sorted.{sorted_by}
 use Rattle.sort.specs.Laws.Sorted.{le-or-lt}
 use Rattle.blocks.specs.declared.Block.{Block}
-use Rattle.blocks.specs.declared.Blocks.{Blocks}
-use Rattle.blocks.specs.declared.Blocks.TheVariants.{Found, Refused}
 use Rattle.blocks.specs.Acceptable.{WellLent}
 use Rattle.blocks.specs.Theorems.Acceptable.{acceptable-exactly}
 use Rattle.blocks.specs.Theorems.Exactly as exactly
@@ -123,7 +121,7 @@ module _ (x : List ℕ) (i y : ℕ) (t : List ℕ) (e : drop i x ≡ y ∷ t) wh
 abbrev word_rank : Span → ℕ
 word_rank s = word_of s.offset
 
-alike : (s b : Span) (o p : ℕ) → s.offset ≡ Placed o → b.offset ≡ Placed p → leb (word_rank s) (word_rank b) ≡ leb (rank_of s) (rank_of b)
+alike : (s b : Span) (o p : ℕ) → s.offset ≡ Some o → b.offset ≡ Some p → leb (word_rank s) (word_rank b) ≡ leb (rank_of s) (rank_of b)
 alike s b o p e f = rw (e, f) (⊎_elim
     (λ le. le-leb o p le ∙ sym (le-leb (suc o) (suc p) (omega arith)))
     (λ lt. lt-leb o p lt ∙ sym (lt-leb (suc o) (suc p) (omega arith)))
@@ -190,18 +188,18 @@ module _ (words lengths : List ℕ) where
   well-formed w (says.too_long {i = k} h l) = omega (arith, (w.each k h).1)
 
 -- an answer in document 01's figures, in the call's numbers
-counted : (r : Blocks) (n : ℕ) → ToldBy r ≡ gives n → blocks_count r ≡ record { refusal = 0; place = 0; count = n }
-counted (Found m) n e = let s : m ≡ n = cc in rw s
-counted (Refused w) n e = unlike cc
+counted : (r : Result ℕ Refusal) (n : ℕ) → ToldBy r ≡ gives n → blocks_count r ≡ record { refusal = 0; place = 0; count = n }
+counted (Ok m) n e = let s : m ≡ n = cc in rw s
+counted (Err w) n e = unlike cc
 
-turned : (r : Blocks) (number place : ℕ) → ToldBy r ≡ refuses number (One place) → blocks_count r ≡ record { refusal = number; place = place; count = 0 }
-turned (Found m) number place e = unlike cc
-turned (Refused w) number place e =
+turned : (r : Result ℕ Refusal) (number place : ℕ) → ToldBy r ≡ refuses number (One place) → blocks_count r ≡ record { refusal = number; place = place; count = 0 }
+turned (Ok m) number place e = unlike cc
+turned (Err w) number place e =
     let s : number_of w ≡ number = cc in
     let t : place_of w ≡ One place = cc in
     rw (s, t)
 
-module _ (words lengths os ss : List ℕ) (r : Blocks) (os₁ ss₁ : List ℕ) (c : Contract words lengths os ss r os₁ ss₁) where
+module _ (words lengths os ss : List ℕ) (r : Result ℕ Refusal) (os₁ ss₁ : List ℕ) (c : Contract words lengths os ss r os₁ ss₁) where
   abbrev made : List Block
   made = blocks_of (spans_of words lengths)
 

@@ -1,12 +1,10 @@
 -- Document 01's cases of banks and of blocks, over the sentences: no other answer meets them.
-use Rattle.std.specs.Prelude.{◌≡◌, refl, false, List, [], ◌∷◌, ℕ, zero, suc, ◌≤◌}
+use Rattle.std.specs.Prelude.{◌≡◌, refl, false, List, [], ◌∷◌, ℕ, zero, suc, ◌≤◌, Option, Some, None, Ok}
 use Rattle.std.proofs.Common.{ap, subst, ◌∙◌, arith}
 use Rattle.prelude.specs.Laws.Bools.{unlike}
 use Rattle.prelude.specs.Told.{Told, gives, refuses, Nothing, nothing, told_verdict}
-use Rattle.prelude.specs.declared.Opt.{Opt}
-use Rattle.prelude.specs.declared.Opt.TheVariants.{None, Some}
 use Rattle.prelude.specs.declared.Place.TheVariants.{Two}
-use Rattle.prelude.specs.declared.Verdict.{Verdict}
+use Rattle.prelude.specs.Verdict.{Verdict}
 use Rattle.bankdef.specs.Cases.{bank, table, two}
 use Rattle.bankdef.specs.Theorems.Cases.{bank-cases}
 use Rattle.bankdef.specs.declared.Bankdef.{Bankdef}
@@ -15,7 +13,6 @@ use Rattle.sort.specs.Sorted.{insert_by, sorted_by}
 use Rattle.blocks.specs.Spans.{spans_of, all_within}
 use Rattle.blocks.specs.Walk.{blocks_from}
 use Rattle.blocks.specs.Outcome.{Contract}
-use Rattle.blocks.specs.declared.Blocks.TheVariants.{Found}
 use Rattle.meets.specs.Table.{Bank, CheckSays}
 use Rattle.says.specs.Blocks.{Outcome, DkBlocksSay}
 use Rattle.meets.specs.Theorems.Banks.{Held, check-meets, check-decides}
@@ -24,7 +21,7 @@ use Rattle.meets.specs.Theorems.Blocks.{blocks-meets, blocks-decides}
 -- ---- banks by offset and size, beside bank 0
 
 -- small numbers
-abbrev Small : Opt → Type 0
+abbrev Small : Option ℕ → Type 0
 Small o = (m : ℕ) → o ≡ Some m → m ≤ 4294967295
 
 none-small : Small None
@@ -33,10 +30,10 @@ none-small m e = unlike cc
 some-small : (n : ℕ) → n ≤ 4294967295 → Small (Some n)
 some-small n h m e = let s : n ≡ m = cc in omega arith
 
-bank-held : (o m : Opt) → Small o → Small m → Held (bank o m false)
+bank-held : (o m : Option ℕ) → Small o → Small m → Held (bank o m false)
 bank-held o m f g = record { unit = omega arith; size = g; offset = f; align = none-small }
 
-module _ (o : ℕ) (m : Opt) (p : ℕ) (n : Opt) (so : o ≤ 4294967295) (sm : Small m) (sp : p ≤ 4294967295) (sn : Small n) where
+module _ (o : ℕ) (m : Option ℕ) (p : ℕ) (n : Option ℕ) (so : o ≤ 4294967295) (sm : Small m) (sp : p ≤ 4294967295) (sn : Small n) where
   abbrev t : Bankdefs
   t = table (bank (Some o) m false) (bank (Some p) n false)
 
@@ -49,7 +46,7 @@ module _ (o : ℕ) (m : Opt) (p : ℕ) (n : Opt) (so : o ≤ 4294967295) (sm : S
   two-only : (x : Told Nothing) (v : Verdict) → two o m p n ≡ v → CheckSays t x → x ≡ told_verdict v
   two-only x v e s = check-decides t x (told_verdict (two o m p n)) s (check-meets t held) ∙ ap told_verdict e
 
-abbrev Says : ℕ → Opt → ℕ → Opt → Told Nothing → Type 0
+abbrev Says : ℕ → Option ℕ → ℕ → Option ℕ → Told Nothing → Type 0
 Says o m p n = CheckSays (table (bank (Some o) m false) (bank (Some p) n false))
 
 -- "banks (offset 0, size 8), (8, 8): apart." "(0, 9), (8, 8): 3." "(8, 8), (0, no size): 3." "(0, 8), (8, no size): apart."
@@ -72,11 +69,11 @@ bank-cases-say = record {
 abbrev room : List ℕ
 room = 0 ∷ 0 ∷ []
 
-marked : Contract (0 ∷ 4 ∷ 8 ∷ []) (8 ∷ 0 ∷ 8 ∷ []) room room (Found 2) (0 ∷ 8 ∷ []) (8 ∷ 8 ∷ [])
+marked : Contract (0 ∷ 4 ∷ 8 ∷ []) (8 ∷ 0 ∷ 8 ∷ []) room room (Ok 2) (0 ∷ 8 ∷ []) (8 ∷ 8 ∷ [])
 unfolding insert_by sorted_by spans_of all_within blocks_from
 marked = record { answer = refl; figures = refl; first = refl; second = refl }
 
-joined : Contract (0 ∷ 8 ∷ []) (8 ∷ 8 ∷ []) room room (Found 1) (0 ∷ 0 ∷ []) (16 ∷ 0 ∷ [])
+joined : Contract (0 ∷ 8 ∷ []) (8 ∷ 8 ∷ []) room room (Ok 1) (0 ∷ 0 ∷ []) (16 ∷ 0 ∷ [])
 unfolding insert_by sorted_by spans_of all_within blocks_from
 joined = record { answer = refl; figures = refl; first = refl; second = refl }
 
@@ -91,7 +88,7 @@ pub record BlockCases : Type 0 where
 pub block-cases-say : BlockCases
 block-cases-say = record {
   apart = λ y s. blocks-decides (0 ∷ 4 ∷ 8 ∷ []) (8 ∷ 0 ∷ 8 ∷ []) room room y (found 2 (0 ∷ 8 ∷ []) (8 ∷ 8 ∷ [])) s
-      (blocks-meets (0 ∷ 4 ∷ 8 ∷ []) (8 ∷ 0 ∷ 8 ∷ []) room room (Found 2) (0 ∷ 8 ∷ []) (8 ∷ 8 ∷ []) marked);
+      (blocks-meets (0 ∷ 4 ∷ 8 ∷ []) (8 ∷ 0 ∷ 8 ∷ []) room room (Ok 2) (0 ∷ 8 ∷ []) (8 ∷ 8 ∷ []) marked);
   together = λ y s. blocks-decides (0 ∷ 8 ∷ []) (8 ∷ 8 ∷ []) room room y (found 1 (0 ∷ 0 ∷ []) (16 ∷ 0 ∷ [])) s
-      (blocks-meets (0 ∷ 8 ∷ []) (8 ∷ 8 ∷ []) room room (Found 1) (0 ∷ 0 ∷ []) (16 ∷ 0 ∷ []) joined);
+      (blocks-meets (0 ∷ 8 ∷ []) (8 ∷ 8 ∷ []) room room (Ok 1) (0 ∷ 0 ∷ []) (16 ∷ 0 ∷ []) joined);
 }

@@ -1,5 +1,5 @@
 -- The text of two good files is the same whatever stood in the room for the overlay's bytes: each byte that is shown is given by the file that it is of.
-use Rattle.std.specs.Prelude.{◌≡◌, Bool, ◌&&◌, leb, ltb, eqb, length, take, drop, get_or}
+use Rattle.std.specs.Prelude.{◌≡◌, Bool, ◌&&◌, leb, ltb, eqb, length, take, drop, get_or, Err, Ok, Result}
 use Rattle.std.proofs.Math.Path.{refl, sym, ap, ap₂}
 use Rattle.std.proofs.Common.{subst, ◌∙◌, arith, leb-true, eq-eqb, length-take, length-drop, ext_get_or, get_or-take, get_or-drop}
 use Rattle.std.proofs.Math.Bool.{true, false, not}
@@ -9,6 +9,7 @@ use Rattle.prelude.specs.Laws.Bools.{either, unlike}
 use Rattle.prelude.specs.Laws.Pick.{pick-false}
 use Rattle.prelude.specs.Pick.{pick}
 use Rattle.prelude.specs.declared.Refusal.TheVariants.{Malformed, TooShort, BadPart, PartlyCovered}
+use Rattle.prelude.specs.declared.Refusal.{Refusal}
 use Rattle.blocks.specs.Outcome.{origins, sizes}
 use Rattle.blocks.specs.Walk.{block}
 use Rattle.blocks.specs.declared.Block.{Block}
@@ -18,8 +19,8 @@ use Rattle.overlay.specs.Range.{inside, judged, source_of}
 use Rattle.overlay.specs.Runs.{length_from, begun, runs_from, agree, listed, shorter, runs_of}
 use Rattle.overlay.specs.Theorems.CoverFacts.{byte-holds, all-holds}
 use Rattle.overlay.specs.Trial.{Trial}
+use Rattle.overlay.specs.declared.Source.TheVariants.{Overlay, Released}
 use Rattle.overlay.specs.declared.Source.{Source}
-use Rattle.overlay.specs.declared.Source.TheVariants.{Overlay, Released, Refused}
 use Rattle.print_text.specs.Ascii.{ascii}
 use Rattle.print_text.specs.Lines.{spaced, line, refusal_text}
 use Rattle.record_lines.specs.Pieces.{Piece}
@@ -185,10 +186,10 @@ module _ (load : ℕ) (a b : List ℕ) (same : length a ≡ length b) (under iss
     source-same : source_of t first count ≡ source_of u first count
     unfolding source_of
     source-same =
-        ap₂ (λ (m n : ℕ). pick (in_order 0 os ss) (pick (inside m n first count) (judged (covered_bit os ss) first count) (Refused BadPart))
-        (Refused (Malformed 0))) over-long issued-long
+        ap₂ (λ (m n : ℕ). pick (in_order 0 os ss) (pick (inside m n first count) (judged (covered_bit os ss) first count) (Err BadPart))
+        (Err (Malformed 0))) over-long issued-long
 
-    all_own : source_of t first count ≡ Overlay → (k : ℕ) → first ≤ k → k < first + count → given under (load + k) ≡ true
+    all_own : source_of t first count ≡ (Ok Overlay) → (k : ℕ) → first ≤ k → k < first + count → given under (load + k) ≡ true
     unfolding source_of
     all_own e k l h =
         covered k
@@ -196,7 +197,7 @@ module _ (load : ℕ) (a b : List ℕ) (same : length a ≡ length b) (under iss
         (go (in_order 0 os ss) (inside (length t.overlay) (length t.released) first count) (all_covered (covered_bit os ss) first count)
         (none_covered (covered_bit os ss) first count) e) k l h)
       where
-        go : (o i w n : Bool) → pick o (pick i (pick w Overlay (pick n Released (Refused PartlyCovered))) (Refused BadPart)) (Refused (Malformed 0)) ≡ Overlay
+        go : (o i w n : Bool) → pick o (pick i (pick w (Ok Overlay) (pick n (Ok Released) (Err PartlyCovered))) (Err BadPart)) (Err (Malformed 0)) ≡ (Ok Overlay)
             → w ≡ true
         go true true true n x = refl
         go true true false true x = unlike cc
@@ -210,14 +211,14 @@ module _ (load : ℕ) (a b : List ℕ) (same : length a ≡ length b) (under iss
     abbrev lack : ℕ
     lack = free_from os ss first
 
-    told_same : (s : Source) → source_of t first count ≡ s → ToldBy load first count free lack t s ≡ ToldBy load first count free lack u s
-    told_same (Refused why) e =
+    told_same : (s : Result Source Refusal) → source_of t first count ≡ s → ToldBy load first count free lack t s ≡ ToldBy load first count free lack u s
+    told_same (Err why) e =
         ap (λ (n : ℕ). pick (leb (first + count) n) (named_text why (ascii "overlay") (load + lack)) (named_text why (ascii "released") (load + free)))
         issued-long
-    told_same Overlay e =
+    told_same (Ok Overlay) e =
         ap (bytes_text (ascii "overlay"))
         (part_same t.overlay u.overlay over-long first count (λ k l h z. over-same k z (all_own e k l h)))
-    told_same Released e =
+    told_same (Ok Released) e =
         either (leb (first + count) free)
         (λ y.
         let all = leb-true (first + count) free y in

@@ -1,5 +1,5 @@
 -- `prog_overlay`: its text meets the sentences.
-use Rattle.std.specs.Prelude.{◌≡◌, Bool, true, false, List, [], ◌∷◌, ◌++◌, ◌⊎◌, ℕ, ◌+◌, ◌-◌, ◌*◌, ◌/◌, ◌≤◌, ◌<◌, leb, ltb, eqb, length, take, drop}
+use Rattle.std.specs.Prelude.{◌≡◌, Bool, true, false, List, [], ◌∷◌, ◌++◌, ◌⊎◌, ℕ, ◌+◌, ◌-◌, ◌*◌, ◌/◌, ◌≤◌, ◌<◌, leb, ltb, eqb, length, take, drop, Result, Err, Ok}
 use Rattle.std.proofs.Math.Path.{refl, subst}
 use Rattle.std.proofs.Common.{sym, ap, ap₂, ◌∙◌, append-nil, inl, inr, ⊎_elim, arith, length-take}
 use Rattle.std.proofs.Math.Decide.{dec_lt}
@@ -14,15 +14,13 @@ use Rattle.prelude.specs.declared.Refusal.{Refusal}
 use Rattle.prelude.specs.declared.Refusal.TheVariants.{Malformed, TooShort, BadPart, PartlyCovered}
 use Rattle.blocks.specs.Outcome.{origins, sizes}
 use Rattle.blocks.specs.declared.Block.{Block}
-use Rattle.blocks.specs.declared.Blocks.{Blocks}
-use Rattle.blocks.specs.declared.Blocks.TheVariants.{Found, Refused as Unfound}
 use Rattle.overlay.specs.Cover.{covered_bit, all_covered, none_covered}
 use Rattle.overlay.specs.Laws.Range.{inside-true}
 use Rattle.overlay.specs.Range.{inside, source_of}
 use Rattle.overlay.specs.Runs.{runs_of}
 use Rattle.overlay.specs.Trial.{Trial}
+use Rattle.overlay.specs.declared.Source.TheVariants.{Overlay, Released}
 use Rattle.overlay.specs.declared.Source.{Source}
-use Rattle.overlay.specs.declared.Source.TheVariants.{Overlay, Released, Refused}
 use Rattle.print_text.specs.Ascii.{ascii}
 use Rattle.print_text.specs.Lines.{line, place_numbers, refusal_text}
 use Rattle.record_lines.specs.Pieces.{Piece}
@@ -175,10 +173,10 @@ module _ (load : ℕ) (old : List ℕ) (under issued : List Piece) (near : reach
         (line-meets (ascii "refused") (number_of why ∷ place_numbers (place_of why))))
         (line-meets (ascii "overlay") ((load + lack) ∷ []))
 
-    abbrev Told : Source → Type 0
+    abbrev Told : Result Source Refusal → Type 0
     Told s = Answers load r o first count (ToldBy load first count gap lack t s)
 
-    outside : inside (length t.overlay) (length t.released) first count ≡ false → Told (Refused BadPart)
+    outside : inside (length t.overlay) (length t.released) first count ≡ false → Told (Err BadPart)
     unfolding inside
     outside e =
         either (leb (first + count) (length t.released))
@@ -206,7 +204,7 @@ module _ (load : ℕ) (old : List ℕ) (under issued : List Piece) (near : reach
       bit-free : (k : ℕ) → given issued (load + k) ≡ true → Gives r k
       bit-free = gives load issued (filled load issued (filled load under old))
 
-      of-released : Digits r.image first count (field (take count (drop first r.image))) → says.Free load r o first count → Told Released
+      of-released : Digits r.image first count (field (take count (drop first r.image))) → says.Free load r o first count → Told (Ok Released)
       of-released shown f =
           either (leb (first + count) gap)
           (λ y.
@@ -222,7 +220,7 @@ module _ (load : ℕ) (old : List ℕ) (under issued : List Piece) (near : reach
 
       judged-so : ((image : List ℕ) → Digits image first count (field (take count (drop first image))))
           → (w n : Bool) → all_covered (covered_bit os ss) first count ≡ w → none_covered (covered_bit os ss) first count ≡ n
-          → Told (pick w Overlay (pick n Released (Refused PartlyCovered)))
+          → Told (pick w (Ok Overlay) (pick n (Ok Released) (Err PartlyCovered)))
       judged-so shown true n e f = told-inside (says.of-overlay (whole o.image r.image os ss first count e) (shown o.image))
       judged-so shown false true e f = of-released (shown r.image) (free o.image r.image os ss first count (in_order_lem load under) f)
       judged-so shown false false e f =
@@ -283,7 +281,7 @@ module _ (load : ℕ) (source : List ℕ) where
   as-known : read_as 0 load source ≡ said
   as-known = refl
 
-  read-so : (old : Lent) (x : Blocks) → answer_of load (lent_of old) said ≡ x
+  read-so : (old : Lent) (x : Result ℕ Refusal) → answer_of load (lent_of old) said ≡ x
       → ReadSays 0 load source old (record { answer = blocks_count x; lent = left (lent_after load (lent_of old) said) })
   read-so old x e =
       read_meets 0 load source old (blocks_count x) (left (lent_after load (lent_of old) said))
@@ -321,14 +319,14 @@ module _ (load : ℕ) (source : List ℕ) where
 
   module _ (short : length source ≤ 1048576) where
     bad-by : (why : Refusal) → place_numbers (place_of why) ≡ first_of (place_of why) ∷ [] → ((old : List ℕ) → read_file load old said ≡ unread why)
-        → ((old : Lent) → Room old → answer_of load (lent_of old) said ≡ Unfound why) → Bad
+        → ((old : Lent) → Room old → answer_of load (lent_of old) said ≡ Err why) → Bad
     bad-by why p f g =
         record {
           why = why;
           file-is = λ old. not-long load old source short ∙ f old;
           says_so = λ name old room.
               subst (λ (x : List ℕ). Unread load source old name (refusal_text why ++ name ++ x)) (fault-short load source short)
-              (says.turned short (read-so old (Unfound why) (g old room)) (number-some why) fault-so
+              (says.turned short (read-so old (Err why) (g old room)) (number-some why) fault-so
               (subst (λ (ns : List ℕ). Line (ascii "refused") (number_of why ∷ ns) (refusal_text why)) p
               (line-meets (ascii "refused") (number_of why ∷ place_numbers (place_of why))))
               (fault-meets-text said));
@@ -379,7 +377,7 @@ module _ (load : ℕ) (source : List ℕ) where
     given_is old = good-is load old source f.short f.pieces f.reads f.near f.few
 
     module _ (old : Lent) (room : Room old) where
-      found : answer_of load (lent_of old) said ≡ Found (length blocks)
+      found : answer_of load (lent_of old) said ≡ Ok (length blocks)
       found =
           ap (answer_of load (lent_of old)) f.reads
           ∙ pick_true _ _ (le-leb (reach load f.pieces) (length old.bytes) (omega (arith, room.0, f.near)))
@@ -390,10 +388,10 @@ module _ (load : ℕ) (source : List ℕ) where
       after = lent_after load (lent_of old) said
 
       abbrev y : Outcome
-      y = record { answer = blocks_count (Found (length blocks)); lent = left after }
+      y = record { answer = blocks_count (Ok (length blocks)); lent = left after }
 
       reads_so : Reads load source old y
-      reads_so = says.reads f.short (read-so old (Found (length blocks)) found) refl
+      reads_so = says.reads f.short (read-so old (Ok (length blocks)) found) refl
 
       h : Held load (lent_of old) said (length blocks) after
       h =

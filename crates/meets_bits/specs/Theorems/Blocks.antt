@@ -1,5 +1,5 @@
 -- `dk_blocks`: by its contract it says the sentences of Blocks (`dk-blocks-meets`), and they leave one outcome (`dk-blocks-decides`).
-use Rattle.std.specs.Prelude.{◌≡◌, refl, Bool, true, false, List, ℕ, length}
+use Rattle.std.specs.Prelude.{◌≡◌, refl, Bool, true, false, List, ℕ, length, Ok, Err}
 use Rattle.prelude.specs.Pick.{pick}
 use Rattle.prelude.specs.Told.{gives, refuses}
 use Rattle.prelude.specs.declared.Place.TheVariants.{One}
@@ -7,7 +7,6 @@ use Rattle.prelude.specs.declared.Refusal.TheVariants.{Malformed, TooShort}
 use Rattle.blocks.specs.Outcome.{room_for, ToldBy, Contract}
 use Rattle.blocks.specs.Spans.{spans_of, acceptable}
 use Rattle.blocks.specs.Walk.{blocks_of}
-use Rattle.blocks.specs.declared.Blocks.TheVariants.{Found, Refused}
 use Rattle.c_model.specs.Parts.{BlocksTold, blocks_answer}
 use Rattle.c_answers.specs.declared.DkCount.{DkCount}
 use Rattle.meets.specs.Theorems.Blocks.{blocks-meets, blocks-decides}
@@ -18,7 +17,7 @@ module _ (words lengths starts₀ sizes₀ : List ℕ) where
   pub dk-blocks-decides : OneOnly (DkBlocksSay words lengths starts₀ sizes₀)
   dk-blocks-decides = blocks-decides words lengths starts₀ sizes₀
 
-  figures : (p q : Bool) (n : ℕ) → ToldBy (pick p (pick q (Found n) (Refused (TooShort 2))) (Refused (Malformed 0)))
+  figures : (p q : Bool) (n : ℕ) → ToldBy (pick p (pick q (Ok n) (Err (TooShort 2))) (Err (Malformed 0)))
       ≡ pick p (pick q (gives n) (refuses 14 (One 2))) (refuses 4 (One 0))
   figures true true n = refl
   figures true false n = refl

@@ -1,5 +1,5 @@
 -- `dk_hex`: by its contract it says the sentences (`hex-meets`), and they leave one outcome (`hex-decides`).
-use Rattle.std.specs.Prelude.{◌≡◌, refl, Bool, true, false, ◌&&◌, List, ◌++◌, ℕ, ◌+◌, ◌-◌, ◌*◌, ◌≤◌, ◌<◌, leb, ltb, length, get_or, drop}
+use Rattle.std.specs.Prelude.{◌≡◌, refl, Bool, true, false, ◌&&◌, List, ◌++◌, ℕ, ◌+◌, ◌-◌, ◌*◌, ◌≤◌, ◌<◌, leb, ltb, length, get_or, drop, Ok, Err}
 use Rattle.std.proofs.Math.Path.{ap}
 use Rattle.std.proofs.Common.{subst, ◌∙◌, ⊎_elim, leb-true, leb-false, ltb-true, ltb-false, length-append, length-drop, ext_get_or}
 use native.Mathlib.Omega.{arith}
@@ -11,7 +11,6 @@ use Rattle.bitvec.specs.HexDigits.{digit_of, padded_bit, digit_value, digit_coun
 use Rattle.bitvec.specs.Theorems.HexDigits.{padded_bit-own, padded_bit-past, length-hex_of, hex_of-digit, digit_value-lt, hex-kept}
 use Rattle.bitvec.specs.Numeral.{numeral}
 use Rattle.bitvec.specs.Within.{ends_within}
-use Rattle.bitvec.specs.declared.Hex.TheVariants.{Digits, Refused}
 use Rattle.c_model.specs.Parts.{HexTold}
 use Rattle.c_answers.specs.Counts.{hex_count}
 use Rattle.c_answers.specs.declared.DkCount.{DkCount}
@@ -106,7 +105,7 @@ module _ (bytes : List ℕ) (bits : ℕ) where
     }
 
     answered : (p q : Bool) → ends_within (length bytes) 0 bits ≡ p → leb (digit_count bits) (length old) ≡ q → HexSays bytes bits old (record {
-      answer = hex_count (pick p (pick q (Digits (digit_count bits)) (Refused (TooShort 3))) (Refused (Malformed 0)));
+      answer = hex_count (pick p (pick q (Ok (digit_count bits)) (Err (TooShort 3))) (Err (Malformed 0)));
       hex = pick (p && q) (text ++ drop (digit_count bits) old) old;
     })
     answered false q e f = let h = leb-false (0 + bits) (8 * length bytes) e in refused tt (omega arith)

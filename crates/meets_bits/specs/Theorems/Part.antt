@@ -6,7 +6,7 @@ use Rattle.std.proofs.lemmas.Bool.{eqb-false}
 use Rattle.prelude.specs.Laws.Bools.{either}
 use Rattle.prelude.specs.Told.{gives, refuses, nothing, told_verdict}
 use Rattle.prelude.specs.declared.Place.TheVariants.{One}
-use Rattle.prelude.specs.declared.Verdict.{Verdict}
+use Rattle.prelude.specs.Verdict.{Verdict}
 use Rattle.bitvec.specs.Part as part
 use Rattle.bitvec.specs.Part.{is_part, IsPart, Parts, Judges}
 use Rattle.bitvec.specs.Theorems.Part.{is_part-true, sixteen-exactly, part_none, part_length, part-byte}

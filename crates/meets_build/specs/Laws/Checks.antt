@@ -1,6 +1,6 @@
 -- The refusals of a layout, 1 to 8, whole: where the library's layout is refused, the sentences of `dk_build` say that refusal, its place and the passes
 -- run; where it is accepted, they leave what the build comes to, over the row of the last pass.
-use Rattle.std.specs.Prelude.{◌≡◌, Bool, ◌&&◌, ℕ, ◌*◌, ◌-◌, ◌≤◌, ◌<◌, eqb, leb, length, get_or}
+use Rattle.std.specs.Prelude.{◌≡◌, Bool, ◌&&◌, ℕ, ◌*◌, ◌-◌, ◌≤◌, ◌<◌, eqb, leb, length, get_or, Err, Ok, Result}
 use Rattle.std.proofs.Math.Path.{refl, sym}
 use Rattle.std.proofs.Common.{ap, subst, ◌∙◌, arith, eqb-true, leb-true, leb-false}
 use Rattle.std.proofs.Math.Bool.{true, false}
@@ -12,8 +12,7 @@ use Rattle.prelude.specs.declared.Place.{Place}
 use Rattle.prelude.specs.declared.Place.TheVariants.{One, Two}
 use Rattle.prelude.specs.declared.Refusal.{Refusal}
 use Rattle.prelude.specs.declared.Refusal.TheVariants.{Malformed}
-use Rattle.prelude.specs.declared.Verdict.{Verdict}
-use Rattle.prelude.specs.declared.Verdict.TheVariants.{Accepted, Refused as TurnedAway}
+use Rattle.prelude.specs.Verdict.{Verdict, Accepted}
 use Rattle.bankdef.specs.Check.{banks_of, count_sound, check_of}
 use Rattle.bankdef.specs.Check as check
 use Rattle.bankdef.specs.Numbers.{fault_at}
@@ -34,7 +33,6 @@ use Rattle.resolver.specs.ListsExactly.{MalformedAt}
 use Rattle.resolver.specs.Theorems.ListsExactly.{malformed-exactly}
 use Rattle.resolver.specs.Passes.{resolution_of}
 use Rattle.resolver.specs.declared.Resolution.{Resolution}
-use Rattle.resolver.specs.declared.Settled.TheVariants.{At, Refused}
 use Rattle.c_tables.specs.Tables.{choices_by}
 use Rattle.says.specs.Words.{Tries, refused, passed, First, FirstPair}
 use Rattle.says.specs.Build as says
@@ -58,7 +56,7 @@ abbrev second_of : Place → ℕ
 second_of (One p) = 0
 second_of (Two p q) = q
 
-turned_same : {a b : Refusal} → TurnedAway a ≡ TurnedAway b → a ≡ b
+turned_same : {a b : Refusal} → ◌≡◌ {A = (Verdict)} (Err a) (Err b) → a ≡ b
 turned_same e = cc
 
 -- ---- 4
@@ -159,12 +157,12 @@ module _ (g : Given) where
     fault-node (says.value-past {r = r} rn w n s) =
         faults.past_values r rn w.0 w.1 (let e = number-one g n (number_is g (table g) r i h) in omega arith)
 
-  malformed-only : (n : ℕ) (why : Refusal) → lists_of n l g.fill ≡ TurnedAway why → (i : ℕ) × (why ≡ Malformed i)
+  malformed-only : (n : ℕ) (why : Refusal) → lists_of n l g.fill ≡ Err why → (i : ℕ) × (why ≡ Malformed i)
   unfolding lists_of
   malformed-only n why e = go (node_count_sound l) (row_count_sound l) (known_fill g.fill) e
     where
       go : (a b c : Bool)
-          → pick a (pick b (pick c (nodes_to n l (nodes g)) (TurnedAway (Malformed 3))) (TurnedAway (Malformed 1))) (TurnedAway (Malformed 0)) ≡ TurnedAway why
+          → pick a (pick b (pick c (nodes_to n l (nodes g)) (Err (Malformed 3))) (Err (Malformed 1))) (Err (Malformed 0)) ≡ Err why
           → (i : ℕ) × (why ≡ Malformed i)
       go false b c e = (0, sym (turned_same e))
       go true false c e = (1, sym (turned_same e))
@@ -209,10 +207,10 @@ module _ (g : Given) (typed : Typed g) (old : Lent) where
               absurd (clash fault (w.none k (leb-false j k t))));
         }))
 
-    lists-refused : (why : Refusal) → lists_of (table g).len (listed g) g.fill ≡ TurnedAway why → Listed Then (answered why 0)
+    lists-refused : (why : Refusal) → lists_of (table g).len (listed g) g.fill ≡ Err why → Listed Then (answered why 0)
     lists-refused why e =
         let w = malformed-only g (table g).len why e in
-        rw w.1 (malformed-says w.0 ((malformed-exactly (table g).len (listed g) g.fill w.0).0 (e ∙ ap TurnedAway w.1)))
+        rw w.1 (malformed-says w.0 ((malformed-exactly (table g).len (listed g) g.fill w.0).0 (e ∙ ap Err w.1)))
 
     no-field-sound : SoundLists (table g).len (listed g) g.fill → (f : ℕ) → BadField g f → ⊥
     no-field-sound s f (says.nodes-many h) = omega (arith, s.few)
@@ -235,7 +233,7 @@ module _ (g : Given) (typed : Typed g) (old : Lent) where
     -- what is said of a verdict on the table
     abbrev Banks : Verdict → Type 0
     Banks Accepted = (y : Outcome) → Then y → Banked Then y
-    Banks (TurnedAway why) = Banked Then (answered why 0)
+    Banks (Err why) = Banked Then (answered why 0)
 
     module _ (sound : count_sound (table g).len ≡ true) where
       abbrev t : Bankdefs
@@ -285,16 +283,16 @@ module _ (g : Given) (typed : Typed g) (old : Lent) where
   -- What is said of what a layout comes to: a refusal is the outcome; otherwise every outcome of the build, over the row of the last pass, is one.
   abbrev pub LayoutSays : Resolution → Type 0
   LayoutSays r =
-      ((why : Refusal) → r.settled ≡ Refused why → BuildSays g old (answered why r.passes))
-      × ((k : ℕ) → r.settled ≡ At k → (row : ℕ) → says.Reads g r.passes row → (y : Outcome) → Built g old row k r.passes y → BuildSays g old y)
+      ((why : Refusal) → r.settled ≡ Err why → BuildSays g old (answered why r.passes))
+      × ((k : ℕ) → r.settled ≡ Ok k → (row : ℕ) → says.Reads g r.passes row → (y : Outcome) → Built g old row k r.passes y → BuildSays g old y)
 
-  settled_same : {a b : Refusal} → Refused a ≡ Refused b → a ≡ b
+  settled_same : {a b : Refusal} → ◌≡◌ {A = Result ℕ Refusal} (Err a) (Err b) → a ≡ b
   settled_same e = cc
 
-  at-apart : {a : ℕ} {b : Refusal} → Refused b ≡ At a → ⊥
+  at-apart : {a : ℕ} {b : Refusal} → Err b ≡ Ok a → ⊥
   at-apart e = unlike cc
 
-  refused_says : (why : Refusal) → BuildSays g old (answered why 0) → LayoutSays (record { settled = Refused why; passes = 0 })
+  refused_says : (why : Refusal) → BuildSays g old (answered why 0) → LayoutSays (record { settled = Err why; passes = 0 })
   refused_says why b = (λ other e. subst (λ (w : Refusal). BuildSays g old (answered w 0)) (settled_same e) b, λ k e. absurd (at-apart e))
 
   one-second : (why : Refusal) (i : ℕ) → place_of why ≡ One i → (first_of (place_of why) ≡ i) × (second_of (place_of why) ≡ 0)
@@ -321,13 +319,13 @@ module _ (g : Given) (typed : Typed g) (old : Lent) where
   lists-say : check_of (table g) ≡ Accepted → (v : Verdict) → lists_of (table g).len (listed g) g.fill ≡ v
       → LayoutSays (unless v (resolution_of (table g) (listed g) g.limit))
   lists-say e Accepted f = passed-says e f
-  lists-say e (TurnedAway why) f =
+  lists-say e (Err why) f =
       refused_says why (table-says (Listed (Laid g old)) Accepted e (answered why 0) (lists-refused (shown g typed e).count (Laid g old) why f))
 
   table-say : (v : Verdict) → check_of (table g) ≡ v
       → LayoutSays (unless v (unless (lists_of (table g).len (listed g) g.fill) (resolution_of (table g) (listed g) g.limit)))
   table-say Accepted e = lists-say e (lists_of (table g).len (listed g) g.fill) refl
-  table-say (TurnedAway why) e = refused_says why (table-says (Listed (Laid g old)) (TurnedAway why) e)
+  table-say (Err why) e = refused_says why (table-says (Listed (Laid g old)) (Err why) e)
 
   -- A layout that is refused, 1 to 8, is refused so by the sentences; of one that is accepted they say what they say of its build.
   pub layout-meets : LayoutSays layout

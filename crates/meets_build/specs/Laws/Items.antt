@@ -1,11 +1,9 @@
 -- What the build writes, item by item, is what the sentences call a written item: where it stands, its size, its starting bit.
-use Rattle.std.specs.Prelude.{◌≡◌, refl, Bool, true, false, ℕ, ◌+◌, ◌≤◌, ◌<◌}
+use Rattle.std.specs.Prelude.{◌≡◌, refl, Bool, true, false, ℕ, ◌+◌, ◌≤◌, ◌<◌, Some, Option, None}
 use Rattle.std.proofs.Common.{sym, ap, subst, ◌∙◌, arith}
 use mathlib.Core.List.Memᴰ
 use mathlib.Core.List.{List, [], ◌∷◌, Memᴰ}
 use Rattle.prelude.specs.Pick.{pick}
-use Rattle.prelude.specs.declared.Opt.{Opt}
-use Rattle.prelude.specs.declared.Opt.TheVariants.{None, Some}
 use Rattle.bankdef.specs.declared.Bankdefs.{Bankdefs}
 use Rattle.iter.specs.Address.{out_at}
 use Rattle.build_plan.specs.Theorems.Kinds.{written-exactly}
@@ -35,7 +33,7 @@ module _ (g : Given) (tab : Bankdefs) (shown : Shown g tab) (c : Checked tab (li
     item-there : (o : ℕ) → v.def.offset ≡ Some o → IsWritten g i → item_of v ≡ item_at (o + position_of v) v.node.number (operand g i) ∷ []
     item-there o e w =
         ap (λ (t : Bool). pick t (standing v.out v.node) []) ((written-exactly v.node).1 w)
-        ∙ ap (λ (x : Opt). standing (out_at x (position_of v)) v.node) e
+        ∙ ap (λ (x : Option ℕ). standing (out_at x (position_of v)) v.node) e
 
     -- A written item by the sentences is written so,
     pub item-when : {x m : ℕ} → IsWritten g i → Offer g r i x m → item_of v ≡ item_at x m (operand g i) ∷ []
@@ -55,7 +53,7 @@ module _ (g : Given) (tab : Bankdefs) (shown : Shown g tab) (c : Checked tab (li
     pub item-only : (x : Item) → Memᴰ x (item_of v) → ItemIs x
     item-only x m = by_kind (is_written v.node) refl m
       where
-        made : (k : IsWritten g i) (o : Opt) → v.def.offset ≡ o → Memᴰ x (standing (out_at o (position_of v)) v.node) → ItemIs x
+        made : (k : IsWritten g i) (o : Option ℕ) → v.def.offset ≡ o → Memᴰ x (standing (out_at o (position_of v)) v.node) → ItemIs x
         made k None q m = absurd (Memᴰ.not-nil m)
         made k (Some o) q m =
             subst ItemIs (sym (Memᴰ.eq_of_singleton m))

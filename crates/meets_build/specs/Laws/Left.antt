@@ -1,13 +1,11 @@
 -- What an accepted build leaves is what the sentences say: the image's bits, the spans, and everything past them.
-use Rattle.std.specs.Prelude.{◌≡◌, refl, Bool, true, false, List, [], ◌∷◌, map, ℕ, zero, suc, ◌+◌, ◌-◌, ◌/◌, ◌≤◌, ◌<◌, eqb, ltb, ℤ, pos, ◌+ℤ◌, length, get_or, drop}
+use Rattle.std.specs.Prelude.{◌≡◌, refl, Bool, true, false, List, [], ◌∷◌, map, ℕ, zero, suc, ◌+◌, ◌-◌, ◌/◌, ◌≤◌, ◌<◌, eqb, ltb, ℤ, pos, ◌+ℤ◌, length, get_or, drop, Option, None, Some}
 use Rattle.std.proofs.Common.{sym, ap, subst, ◌∙◌, arith, eqb-true, ltb-true, ltb-false, length-append, length-drop, get_or-drop}
 use Rattle.std.proofs.lemmas.Bool.{eqb-false}
 use Rattle.std.proofs.lemmas.List.{length-map}
 use Rattle.prelude.specs.Laws.Bools.{either, unlike}
 use Rattle.prelude.specs.Pick.{pick}
 use Rattle.prelude.specs.Laws.Pick.{pick_true, pick-false}
-use Rattle.prelude.specs.declared.Opt.{Opt}
-use Rattle.prelude.specs.declared.Opt.TheVariants.{None, Some}
 use Rattle.bankdef.specs.Check.{no_bank, banks_of}
 use Rattle.bankdef.specs.FillBits.{FillsBit}
 use Rattle.bankdef.specs.declared.Bankdef.{Bankdef}
@@ -27,8 +25,8 @@ use Rattle.output.specs.SpanFacts.{spans_among}
 use Rattle.output.specs.Laws.SpanFacts.{spans-counted}
 use Rattle.output.proofs.SpanFacts.{span-count, span-address, span-offset, span-size-label, span-size-item}
 use Rattle.output.proofs.SpanFacts.{old-addresses-stay, old-offsets-stay, old-sizes-stay}
-use Rattle.output.specs.declared.Build.TheVariants.{Done}
 use Rattle.output.specs.declared.Output.{Output}
+use Rattle.output.specs.Built.{done_with}
 use Rattle.build_plan.specs.Theorems.Kinds.{span-exactly}
 use Rattle.resolver.specs.Layout.{Checked}
 use Rattle.build_visits.specs.Laws.ItemLaws.{image-length}
@@ -88,7 +86,7 @@ node-of c zero at h = absurd (let b : ⊥ = omega arith in b)
 node-of c (suc n) at h = node_by c n at (node-of c n at) (is_span (visit_in c n).node) refl h
 
 -- "the output position is offset plus position", as a word: of a position in a bank
-pub word-told : (g : Given) {b : ℕ} {def : Bankdef} → Tells g b def → (p : ℕ) (o : Opt) → def.offset ≡ o → OffsetWord g b p (word_of (out_at o p))
+pub word-told : (g : Given) {b : ℕ} {def : Bankdef} → Tells g b def → (p : ℕ) (o : Option ℕ) → def.offset ≡ o → OffsetWord g b p (word_of (out_at o p))
 word-told g {b} tells p None e = says.nowhere (λ f. apart (sym e ∙ tells.has-offset (get_or g.bank_offsets b 0) (f, refl)))
   where
     apart : {n : ℕ} → None ≡ Some n → ⊥
@@ -98,7 +96,7 @@ word-told g tells p (Some o) e = says.at (tells.placed o e)
 module _ (g : Given) (typed : Typed g) (shown : Shown g (table g)) (ck : Checked (table g) (listed g) g.fill) (old : out.Lent) (answer : Output)
     (new : out.Lent) (meets : Builds (input_of g typed) old answer new)
     (all : Goes g (table g) shown ck (row_here g typed shown ck old answer new meets) (nodes g))
-    (k bits spans : ℕ) (done : answer.build ≡ Done k bits spans) where
+    (k bits spans : ℕ) (done : answer.build ≡ done_with k bits spans) where
   abbrev a : Accepted
   a = record { call = call g typed shown ck old answer new meets; k = k; bits = bits; spans = spans; done = done }
 

@@ -1,13 +1,11 @@
 -- The image's length: the fill's, inherited or full, bank by bank, and the furthest end of a written item.
-use Rattle.std.specs.Prelude.{◌≡◌, Bool, true, false, ◌⊎◌, ℕ, zero, suc, ◌+◌, ◌-◌, ◌≤◌, ◌<◌, eqb, length, get_or, take}
+use Rattle.std.specs.Prelude.{◌≡◌, Bool, true, false, ◌⊎◌, ℕ, zero, suc, ◌+◌, ◌-◌, ◌≤◌, ◌<◌, eqb, length, get_or, take, Some, Option}
 use Rattle.std.proofs.Math.Path.{refl}
 use Rattle.std.proofs.Common.{sym, ap, subst, ◌∙◌, inl, inr, ⊎_elim, arith, eq-eqb, ne_eqb, eqb-true, length-take, get_or-take, take-suc, take_all}
 use mathlib.Core.List.{List, [], ◌∷◌, ◌++◌, Memᴰ}
 use Rattle.std.proofs.lemmas.Bool.{eqb-false}
 use Rattle.prelude.specs.Laws.Bools.{either}
 use Rattle.prelude.specs.Pick.{pick}
-use Rattle.prelude.specs.declared.Opt.{Opt}
-use Rattle.prelude.specs.declared.Opt.TheVariants.{None, Some}
 use Rattle.bankdef.specs.Check.{no_bank, banks_of}
 use Rattle.bankdef.specs.Fill.{fill_from, fill_length, full_length, fill_by}
 use Rattle.bankdef.specs.FillFacts as facts
@@ -51,7 +49,7 @@ module _ (g : Given) (shown : Shown g (table g)) (ck : Checked (table g) (listed
   -- "a filled bank has size 0" is refused before
   some_bits : (b : ℕ) → b < banks g → (m : ℕ) → (get_or l b no_bank).fill ≡ true → (get_or l b no_bank).size ≡ Some m → 0 < m
   some_bits b h m f s =
-      let z : is_zero (Some m) ≡ false = subst (λ (o : Opt). is_zero o ≡ false) s ((sound b h).filled f) in
+      let z : is_zero (Some m) ≡ false = subst (λ (o : Option ℕ). is_zero o ≡ false) s ((sound b h).filled f) in
       let n = eqb-false m 0 z in
       omega arith
 

@@ -1,5 +1,5 @@
 -- Whom 12 names at a node: the interval or the mark that the sentences name.
-use Rattle.std.specs.Prelude.{◌≡◌, refl, true, false, ◌⊎◌, ℕ, ◌+◌, ◌-◌, ◌≤◌, ◌<◌, min, max, eqb, ltb}
+use Rattle.std.specs.Prelude.{◌≡◌, refl, true, false, ◌⊎◌, ℕ, ◌+◌, ◌-◌, ◌≤◌, ◌<◌, min, max, eqb, ltb, None, Some}
 use Rattle.std.proofs.Common.{sym, ap, subst, ◌∙◌, inl, inr, ⊎_elim, arith}
 use mathlib.Core.List.{List, Memᴰ}
 use borrow.Author.Tests.{eqb-true, eqb-false, eq-eqb, ne_eqb, ltb-true, lt-ltb}
@@ -9,7 +9,6 @@ use Rattle.prelude.specs.declared.Place.{Place}
 use Rattle.prelude.specs.declared.Place.TheVariants.{One, Two}
 use Rattle.overlap_checker.specs.Interval.{interval, clashes, shares_bit, strictly_inside}
 use Rattle.overlap_checker.specs.declared.Entry.{Entry}
-use Rattle.prelude.specs.declared.Opt.TheVariants.{None, Some}
 use Rattle.bankdef.specs.declared.Bankdef.{Bankdef}
 use Rattle.overlap_checker.specs.Folds.{accepted, state_after}
 use Rattle.overlap_checker.specs.Naming.{LowestAbove, HighestBelow, Named}

@@ -1,12 +1,11 @@
 -- One node of a row, from the position in its bank to the one after it: what the library's step tells of it is what the sentences say of it.
-use Rattle.std.specs.Prelude.{◌≡◌, refl, Bool, true, false, ◌⊎◌, ◌↔◌, ℕ, zero, ◌+◌, ◌/◌, ◌≤◌, ◌<◌, eqb, get_or}
+use Rattle.std.specs.Prelude.{◌≡◌, refl, Bool, true, false, ◌⊎◌, ◌↔◌, ℕ, zero, ◌+◌, ◌/◌, ◌≤◌, ◌<◌, eqb, get_or, Err, Ok, Some, Result}
 use Rattle.std.proofs.Common.{sym, ap, subst, ◌∙◌, inl, inr, arith, eqb-true}
 use Rattle.std.proofs.Math.Nat.{zero-div}
 use Rattle.std.proofs.lemmas.Bool.{eqb-false}
 use Rattle.prelude.specs.Laws.Bools.{either, unlike}
 use Rattle.prelude.specs.Told.{Told, gives, refuses, told_number}
 use Rattle.prelude.specs.Theorems.Told.{number-some}
-use Rattle.prelude.specs.declared.Opt.TheVariants.{Some}
 use Rattle.prelude.specs.declared.Place.{Place}
 use Rattle.prelude.specs.declared.Refusal.{Refusal}
 use Rattle.bankdef.specs.declared.Bankdef.{Bankdef}
@@ -17,9 +16,6 @@ use Rattle.iter.specs.Theorems.Padding.{units-over-unit}
 use Rattle.iter.specs.Distance.{distance_of}
 use Rattle.iter.specs.Figures as told
 use Rattle.iter.specs.Figures.{OuterSymbol, Sees, Advances, Keeps, SightSkips, OwnSkips, Skipping}
-use Rattle.iter.specs.declared.Distance.TheVariants.{Skips, Refused as NoDistance}
-use Rattle.iter.specs.declared.Moved.{Moved}
-use Rattle.iter.specs.declared.Moved.TheVariants.{To, Refused as Stopped}
 use Rattle.nodes.specs.declared.Node.{Node}
 use Rattle.iter.specs.declared.Pos.{Pos}
 use Rattle.iter.specs.declared.Skipped.{Skipped}
@@ -33,7 +29,7 @@ gives_same e = cc
 never-gives : {p : Pos} {n : ℕ} {place : Place} → 0 < n → refuses n place ≡ gives p → ⊥
 never-gives {n = n} h e = let z : n ≡ 0 = ap (λ (t : Told Pos). told_number t) e in omega arith
 
-never-to : {why : Refusal} {p : Pos} → Stopped why ≡ To p → ⊥
+never-to : {why : Refusal} {p : Pos} → Err why ≡ Ok p → ⊥
 never-to e = unlike cc
 
 same_bool : (x y : Bool) {P : Type 0} → (x ≡ true) ↔ ((y ≡ true) × P) → P → x ≡ y
@@ -50,7 +46,7 @@ module _ (g : Given) (banks : Bankdefs) (r i b : ℕ) (listed : i < nodes g) (de
   n = node_no g banks r i
 
   -- a distance can be told
-  no-untold : (position a : ℕ) (why : Refusal) → distance_of def position a i ≡ NoDistance why → ⊥
+  no-untold : (position a : ℕ) (why : Refusal) → distance_of def position a i ≡ Err why → ⊥
   no-untold position a why e = never why _ (sym e ∙ told-when def position a i tells.told)
 
   -- ---- what it sees
@@ -71,7 +67,7 @@ module _ (g : Given) (banks : Bankdefs) (r i b : ℕ) (listed : i < nodes g) (de
     within = λ h. let q = ap (λ (x : Pos). x.position) e in omega arith;
   }
 
-  aligned-sight : (at p : Pos) (a : ℕ) (d : Skipped) → OuterSymbol n → def.align ≡ Some a → distance_of def at.position a i ≡ Skips d
+  aligned-sight : (at p : Pos) (a : ℕ) (d : Skipped) → OuterSymbol n → def.align ≡ Some a → distance_of def at.position a i ≡ Ok d
       → {t : Told Pos} → told.Adds at d.bits at.known i t → t ≡ gives p → Sight at p
   aligned-sight at p a d s f q (told.sum l) e =
       subst (Sight at) (gives_same e) (record {
@@ -127,7 +123,7 @@ module _ (g : Given) (banks : Bankdefs) (r i b : ℕ) (listed : i < nodes g) (de
     pub within : p.position ≤ 4294967295 → q.position ≤ 4294967295
 
   aligned-own : (p q : Pos) (known : Bool) (d : Skipped) → kind g i ≡ 8 → Keeps p.known n known
-      → distance_of def p.position n.number i ≡ Skips d → {t : Told Pos} → told.Adds p d.bits known i t → t ≡ gives q → Own p q
+      → distance_of def p.position n.number i ≡ Ok d → {t : Told Pos} → told.Adds p d.bits known i t → t ≡ gives q → Own p q
   aligned-own p q known d k keeps f (told.sum l) e =
       subst (Own p) (gives_same e) (record {
         advance = says.aligns k (number_is g banks r i listed) (distance_is g b def tells p.position n.number i d f);
@@ -159,32 +155,32 @@ module _ (g : Given) (banks : Bankdefs) (r i b : ℕ) (listed : i < nodes g) (de
 
   -- ---- what it loses
 
-  skipping-of : (at p : Pos) (a : ℕ) {m : Moved} {s : Skipped} → Skipping def at a i m s → m ≡ To p → Distance g b at.position a s.bits
+  skipping-of : (at p : Pos) (a : ℕ) {m : Result Pos Refusal} {s : Skipped} → Skipping def at a i m s → m ≡ Ok p → Distance g b at.position a s.bits
   skipping-of at p a (told.by {s = s} f) e = distance_is g b def tells at.position a i s f
   skipping-of at p a told.refused e = absurd (never-to e)
   skipping-of at p a (told.untold why f) e = absurd (no-untold at.position a why f)
 
-  pub lead-lost : (at p : Pos) {m : Moved} {s : Skipped} → SightSkips def at n m s → m ≡ To p → Lead g i b at.position s.bits
+  pub lead-lost : (at p : Pos) {m : Result Pos Refusal} {s : Skipped} → SightSkips def at n m s → m ≡ Ok p → Lead g i b at.position s.bits
   lead-lost at p (told.other h) e = says.unaligned (λ x. h (x.0, x.1))
   lead-lost at p (told.unaligned h) e = says.unaligned (λ x. tells.unaligned h x.2)
   lead-lost at p (told.aligned o a f k) e = says.symbol o.0 o.1 (tells.aligned a f) (skipping-of at p a k e)
 
   -- the bits that an align skips are its distance
-  pub own-lost : (p q : Pos) {m : Moved} {s : Skipped} → kind g i ≡ 8 → OwnSkips def p n m s → m ≡ To q → Distance g b p.position n.number s.bits
+  pub own-lost : (p q : Pos) {m : Result Pos Refusal} {s : Skipped} → kind g i ≡ 8 → OwnSkips def p n m s → m ≡ Ok q → Distance g b p.position n.number s.bits
   own-lost p q eight (told.other h) e = absurd (h eight)
   own-lost p q eight (told.aligns h k) e = skipping-of p q n.number k e
 
   -- and the whole units in it: "distance over unit, rounded down"
-  skipping-units : {at : Pos} {a : ℕ} {m : Moved} {s : Skipped} → Skipping def at a i m s → s.units ≡ s.bits / unit g b
+  skipping-units : {at : Pos} {a : ℕ} {m : Result Pos Refusal} {s : Skipped} → Skipping def at a i m s → s.units ≡ s.bits / unit g b
   skipping-units {at} {a} (told.by {s = s} f) = units-over-unit def at.position a i s f ∙ ap (λ (u : ℕ). s.bits / u) tells.of-unit
   skipping-units told.refused = sym (zero-div (unit g b))
   skipping-units (told.untold why f) = sym (zero-div (unit g b))
 
-  pub lead-units : (at : Pos) {m : Moved} {s : Skipped} → SightSkips def at n m s → s.units ≡ s.bits / unit g b
+  pub lead-units : (at : Pos) {m : Result Pos Refusal} {s : Skipped} → SightSkips def at n m s → s.units ≡ s.bits / unit g b
   lead-units at (told.other h) = sym (zero-div (unit g b))
   lead-units at (told.unaligned h) = sym (zero-div (unit g b))
   lead-units at (told.aligned o a f k) = skipping-units k
 
-  pub own-units : (p : Pos) {m : Moved} {s : Skipped} → OwnSkips def p n m s → s.units ≡ s.bits / unit g b
+  pub own-units : (p : Pos) {m : Result Pos Refusal} {s : Skipped} → OwnSkips def p n m s → s.units ≡ s.bits / unit g b
   own-units p (told.other h) = sym (zero-div (unit g b))
   own-units p (told.aligns h k) = skipping-units k

@@ -1,5 +1,5 @@
 -- A build that places every node: refusal 14 where a lent output is too short, otherwise accepted, with what it leaves.
-use Rattle.std.specs.Prelude.{◌≡◌, Bool, true, false, List, ◌⊎◌, ℕ, ◌-◌, ◌*◌, ◌≤◌, ◌<◌, min, ltb, length}
+use Rattle.std.specs.Prelude.{◌≡◌, Bool, true, false, List, ◌⊎◌, ℕ, ◌-◌, ◌*◌, ◌≤◌, ◌<◌, min, ltb, length, Ok, Err}
 use Rattle.std.proofs.Math.Path.{refl, ap}
 use Rattle.std.proofs.Common.{sym, subst, ◌∙◌, inl, inr, ⊎_elim, arith, ltb-true, ltb-false}
 use Rattle.prelude.specs.Laws.Bools.{either}
@@ -12,15 +12,13 @@ use Rattle.output.proofs.CallsLaws.{padding-is}
 use Rattle.output.proofs.OffersMade.{refused-where}
 use Rattle.output.specs.Output as out
 use Rattle.output.specs.Output.{room_of, room_for, placed_build, padding_by, settled_build, settled_of, passes_of, build_of, Builds}
-use Rattle.output.specs.declared.Build.{Build}
-use Rattle.output.specs.declared.Build.TheVariants.{Done, Refused}
 use Rattle.output.specs.declared.Output.{Output}
+use Rattle.output.specs.Built.{done_with}
 use Rattle.overlap_checker.specs.State.{State}
 use Rattle.build_plan.specs.Placing.{Placed, holds, stops, placed_all}
 use Rattle.build_plan.specs.Laws.PlacingLaws.{stops-holds}
 use Rattle.build_plan.specs.Plan.{paddings_of}
 use Rattle.resolver.specs.Layout.{Checked}
-use Rattle.resolver.specs.declared.Settled.TheVariants.{At}
 use Rattle.c_answers.specs.Told.{layout_told}
 use Rattle.c_answers.specs.declared.DkLayout.{DkLayout}
 use Rattle.build_visits.specs.Spans.{spans_of}
@@ -63,7 +61,7 @@ module _ (g : Given) where
       by (says.full o s f) = offered-listed o
 
   module _ (typed : Typed g) (old : out.Lent) (r : DkLayout) (new : out.Lent) (answer : r ≡ layout_told (build_of (input_of g typed) (room_of old)))
-      (built : Builds (input_of g typed) old (build_of (input_of g typed) (room_of old)) new) (k : ℕ) (settled : settled_of (input_of g typed) ≡ At k) where
+      (built : Builds (input_of g typed) old (build_of (input_of g typed) (room_of old)) new) (k : ℕ) (settled : settled_of (input_of g typed) ≡ Ok k) where
     abbrev given : Output
     given = build_of (input_of g typed) (room_of old)
 
@@ -92,12 +90,12 @@ module _ (g : Given) where
     unfolding build_of
     passes_of_lem = refl
 
-    told-done : (o : Output) (b m : ℕ) (sums : List Lost) → o.build ≡ Done k b m → o.padding ≡ sums → layout_told o
+    told-done : (o : Output) (b m : ℕ) (sums : List Lost) → o.build ≡ done_with k b m → o.padding ≡ sums → layout_told o
         ≡ record { refusal = 0; place = 0; second = 0; passes = o.passes; k = k; length = b; spans = m; padding = sums }
     told-done o b m sums e f = rw (e, f)
 
     -- accepted: the answer, and what is left
-    done-built : given.build ≡ Done k bits count → Accepts g (lent_so old) row k n bits count (outcome g typed old r new answer built)
+    done-built : given.build ≡ done_with k bits count → Accepts g (lent_so old) row k n bits count (outcome g typed old r new answer built)
     done-built e =
         let sums = paddings_of (program_in c) (row_in c) in
         let padding : given.padding ≡ sums = padding-is c ∙ ap (padding_by sums) e in
@@ -165,7 +163,7 @@ module _ (g : Given) where
           (spans-meet g (table g) is ck row (goes-all g typed old r new answer built k settled) (nodes g))
           after)
 
-    pub stopped-build : (why : Refusal) → placed_all (closed_in c) (visits_in c) ≡ stops why → given.build ≡ Refused why
+    pub stopped-build : (why : Refusal) → placed_all (closed_in c) (visits_in c) ≡ stops why → given.build ≡ Err why
     unfolding build_of
     stopped-build why e =
         ap (settled_build (input_of g typed) (room_of old) (passes_of (input_of g typed))) settled ∙ ap (placed_build (room_of old) k bits count) e

@@ -1,6 +1,6 @@
 -- The nodes before the one that the build is refused at: none of them is refused by the sentences; and the one that it is refused at is, with the number
 -- and the place that the build answers.
-use Rattle.std.specs.Prelude.{◌≡◌, refl, ◌⊎◌, ℕ, suc, ◌-◌, ◌≤◌, ◌<◌}
+use Rattle.std.specs.Prelude.{◌≡◌, refl, ◌⊎◌, ℕ, suc, ◌-◌, ◌≤◌, ◌<◌, Ok, Err}
 use Rattle.std.proofs.Common.{sym, ap, subst, ◌∙◌, inl, inr, ⊎_elim, arith}
 use mathlib.Core.List.{List, [], ◌∷◌, Memᴰ}
 use Rattle.prelude.specs.Laws.Bools.{unlike}
@@ -20,12 +20,11 @@ use Rattle.overlap_checker.specs.State.{State, empty_state}
 use Rattle.build_plan.specs.Placing.{placed_all, placed_from, holds, stops, verdict_seen}
 use Rattle.build_plan.specs.Laws.PlacingLaws.{placed-append, before-holds, stops-holds, offer-is}
 use Rattle.resolver.specs.Layout.{Checked}
-use Rattle.resolver.specs.declared.Settled.TheVariants.{At}
 use Rattle.build_visits.specs.Laws.VisitLaws.{visits-split}
 use Rattle.prelude.specs.Told.{Told, gives, refuses, Nothing, told_verdict}
 use Rattle.prelude.specs.Theorems.Told.{number-some}
 use Rattle.prelude.specs.declared.Refusal.TheVariants.{DefaultBank, PastBank, NoOutput}
-use Rattle.prelude.specs.declared.Verdict.TheVariants.{Accepted, Refused as TurnedAway}
+use Rattle.prelude.specs.Verdict.{Accepted}
 use Rattle.overlap_checker.proofs.Demand3.{only_two, full-place}
 use Rattle.overlap_checker.specs.State.{answer as answer-to}
 use Rattle.overlap_checker.specs.declared.Entry.{Entry}
@@ -96,7 +95,7 @@ module _ (g : Given) (typed : Typed g) (shown : Shown g (table g)) (ck : Checked
         by (says.full o h w) = not-13 o h w
 
     -- So where the build has placed the first n nodes, none of them is refused by the sentences.
-    pub none-refused : (k : ℕ) → settled_of (input_of g typed) ≡ At k → (n : ℕ) → n ≤ nodes g → (s : State)
+    pub none-refused : (k : ℕ) → settled_of (input_of g typed) ≡ Ok k → (n : ℕ) → n ≤ nodes g → (s : State)
         → placed_all (closed_in c) (visits_before c n) ≡ holds s → (i : ℕ) → i < n → Refuses g r i → ⊥
     none-refused k settled n h s e i l z =
         let after = visits-split (program_in c) (row_in c) (suc i) n l in
@@ -115,7 +114,7 @@ module _ (g : Given) (typed : Typed g) (shown : Shown g (table g)) (ck : Checked
           sees = (all i (omega arith)).1;
         }) next.0 next.1 z
 
-    module _ (k : ℕ) (settled : settled_of (input_of g typed) ≡ At k) (why : Refusal) (f : FirstRefused c why) where
+    module _ (k : ℕ) (settled : settled_of (input_of g typed) ≡ Ok k) (why : Refusal) (f : FirstRefused c why) where
       abbrev i : ℕ
       i = f.n
 
@@ -156,7 +155,7 @@ module _ (g : Given) (typed : Typed g) (shown : Shown g (table g)) (ck : Checked
       one_number : {a b : ℕ} {p q : Place} → RefusedThere c i a p → RefusedThere c i b q → a ≡ b
       one_number t u = told_same (sym t.told ∙ u.told)
 
-      cons-apart : {why : Refusal} → Accepted ≡ TurnedAway why → ⊥
+      cons-apart : {why : Refusal} → Accepted ≡ Err why → ⊥
       cons-apart e = unlike cc
 
       module _ (t : RefusedThere c i (number_of why) (place_of why)) (store : 12 ≤ number_of why) where
@@ -193,13 +192,13 @@ module _ (g : Given) (typed : Typed g) (shown : Shown g (table g)) (ck : Checked
           by-offer : (l : List Entry) → offer_of (visit_in c i) ≡ l → ⊥
           by-offer [] is = cons-apart (sym (ap (asked_of x.stored i) is) ∙ a)
           by-offer (e ∷ l) is =
-              let asked : answer-to x.stored e i ≡ TurnedAway w = sym (ap (asked_of x.stored i) is) ∙ a in
+              let asked : answer-to x.stored e i ≡ Err w = sym (ap (asked_of x.stored i) is) ∙ a in
               let two = only_two x.stored e i (number_of w) (number-some w) (place_of w, ap told_verdict asked) in
               let same = ap number_of s in
               ⊎_elim (λ (k : number_of w ≡ 12). omega arith) (λ (k : number_of w ≡ 13). omega arith) two
 
       -- 12 and 13
-      module _ (e : Entry) (is : offer_of (visit_in c i) ≡ e ∷ []) (asked : answer-to x.stored e i ≡ TurnedAway why) where
+      module _ (e : Entry) (is : offer_of (visit_in c i) ≡ e ∷ []) (asked : answer-to x.stored e i ≡ Err why) where
         offer-here : Offer g r i e.position e.size
         offer-here = offer-only g (table g) shown ck r all i there-at e is
 
@@ -263,15 +262,15 @@ module _ (g : Given) (typed : Typed g) (shown : Shown g (table g)) (ck : Checked
 
       -- what the store was asked, where it is the store that refuses
       abbrev Store : Type 0
-      Store = (e : Entry) × (offer_of (visit_in c i) ≡ e ∷ []) × (answer-to x.stored e i ≡ TurnedAway why) × ((number_of why ≡ 12) ⊎ (number_of why ≡ 13))
+      Store = (e : Entry) × (offer_of (visit_in c i) ≡ e ∷ []) × (answer-to x.stored e i ≡ Err why) × ((number_of why ≡ 12) ⊎ (number_of why ≡ 13))
 
-      store_of : asked_of x.stored i (offer_of (visit_in c i)) ≡ TurnedAway why → Store
+      store_of : asked_of x.stored i (offer_of (visit_in c i)) ≡ Err why → Store
       store_of a = go (offer_of (visit_in c i)) refl
         where
           go : (l : List Entry) → offer_of (visit_in c i) ≡ l → Store
           go [] is = absurd (cons-apart (sym (ap (asked_of x.stored i) is) ∙ a))
           go (e ∷ l) is =
-              let asked : answer-to x.stored e i ≡ TurnedAway why = sym (ap (asked_of x.stored i) is) ∙ a in
+              let asked : answer-to x.stored e i ≡ Err why = sym (ap (asked_of x.stored i) is) ∙ a in
               let one = offer-is (visit_in c i) e (subst (Memᴰ e) (sym is) (Memᴰ.head refl)) in
               (e, one, asked, only_two x.stored e i (number_of why) (number-some why) (place_of why, ap told_verdict asked))
 

@@ -1,6 +1,6 @@
 -- The passes of a layout that has passed its checks: which run, which is the last, K, and what refuses them, as the sentences say. A layout that the
 -- library's passes refuse is laid out by the sentences with that refusal; of one that they accept, the last pass has run and is not unresolved.
-use Rattle.std.specs.Prelude.{◌≡◌, refl, Bool, true, false, ℕ, ◌+◌, ◌-◌, ◌≤◌, ◌<◌, max, eqb}
+use Rattle.std.specs.Prelude.{◌≡◌, refl, Bool, true, false, ℕ, ◌+◌, ◌-◌, ◌≤◌, ◌<◌, max, eqb, Result, Ok, Err}
 use Rattle.std.proofs.Common.{sym, ap, subst, ◌∙◌, arith, add-one, eqb-true}
 use Rattle.std.proofs.lemmas.Bool.{eqb-false}
 use Rattle.prelude.specs.Laws.Bools.{either, clash, unlike}
@@ -17,10 +17,7 @@ use Rattle.resolver.specs.Theorems.LabelStates.{before-ran}
 use Rattle.resolver.specs.Layout.{Checked}
 use Rattle.resolver.specs.Theorems.NodeOrder.{ran-to-end, first-met}
 use Rattle.resolver.specs.Passes.{row_of_pass, pass_at, unresolved, last_of, settled_by}
-use Rattle.resolver.specs.declared.Pass.{Pass}
-use Rattle.resolver.specs.declared.Pass.TheVariants.{State, Refused as Failed}
 use Rattle.resolver.specs.declared.Resolution.{Resolution}
-use Rattle.resolver.specs.declared.Settled.TheVariants.{At, Refused}
 use Rattle.says.specs.Words.{First}
 use Rattle.says.specs.Build as says
 use Rattle.says.specs.Build.{Given, Lent, nodes, Reads, Unresolved, Stops, Stopped, RunsThrough, UnresolvedBefore, LastPass, Laid, refusal}
@@ -28,22 +25,22 @@ use Rattle.meets_build.specs.Laws.Shown.{Shown, listed, walked}
 use Rattle.meets_build.specs.Laws.Stops.{row_for, reads-row, runs-meets, stops-meets}
 use Rattle.meets_build.specs.Laws.States.{Passes, past_all, unresolved-when, unresolved-only}
 
-two-of : (x : Pass) → unresolved x ≡ true → x ≡ State 2
-two-of (State s) e = ap State (eqb-true s 2 e)
-two-of (Failed why) e = absurd (clash e refl)
+two-of : (x : Result ℕ Refusal) → unresolved x ≡ true → x ≡ Ok 2
+two-of (Ok s) e = ap Ok (eqb-true s 2 e)
+two-of (Err why) e = absurd (clash e refl)
 
 module _ (g : Given) (banks : Bankdefs) (shown : Shown g banks) (c : Checked banks (listed g) g.fill) where
-  abbrev pass : ℕ → Bool → Pass
+  abbrev pass : ℕ → Bool → Result ℕ Refusal
   pass = pass_at banks (listed g)
 
   abbrev m : ℕ
   m = g.limit
 
   -- a pass that ends has gone past every node
-  ended : (n : ℕ) (last : Bool) (s : ℕ) → pass n last ≡ State s → Passes g banks shown c n last
+  ended : (n : ℕ) (last : Bool) (s : ℕ) → pass n last ≡ Ok s → Passes g banks shown c n last
   ended n last s e = ran-to-end (walked g banks) (row_of_pass (listed g) n) (row_of_pass (listed g) (n - 1)) (eqb n 1) last s e
 
-  ended-runs : (n : ℕ) → 1 ≤ n → (last : Bool) (s : ℕ) → pass n last ≡ State s → RunsThrough g n last
+  ended-runs : (n : ℕ) → 1 ≤ n → (last : Bool) (s : ℕ) → pass n last ≡ Ok s → RunsThrough g n last
   ended-runs n h last s e = runs-meets g banks shown c n h last (ended n last s e)
 
   before_of : (n : ℕ) → Unsettled pass n → 2 ≤ n → Passes g banks shown c (n - 1) false
@@ -57,7 +54,7 @@ module _ (g : Given) (banks : Bankdefs) (shown : Shown g banks) (c : Checked ban
       (ended-runs j low false 2 e, unresolved-when g banks shown c j low false 2 e (before_of j before) refl)
 
   -- a pass that ends with another state than 2 is not unresolved
-  settles-says : (n : ℕ) → 1 ≤ n → (last : Bool) (s : ℕ) → pass n last ≡ State s → (2 ≤ n → Passes g banks shown c (n - 1) false) → eqb s 2 ≡ false
+  settles-says : (n : ℕ) → 1 ≤ n → (last : Bool) (s : ℕ) → pass n last ≡ Ok s → (2 ≤ n → Passes g banks shown c (n - 1) false) → eqb s 2 ≡ false
       → Unresolved g n → ⊥
   settles-says n h last s e prior other u = eqb-false s 2 other (unresolved-only g banks shown c n h last s e prior u)
 
@@ -114,39 +111,39 @@ module _ (g : Given) (banks : Bankdefs) (shown : Shown g banks) (c : Checked ban
       pub past : Passes g banks shown c n true
 
     abbrev Meets : Resolution → Type 0
-    Meets r = ((why : Refusal) → r.settled ≡ Refused why → Halts why r.passes) × ((k : ℕ) → r.settled ≡ At k → SettledSo k r.passes)
+    Meets r = ((why : Refusal) → r.settled ≡ Err why → Halts why r.passes) × ((k : ℕ) → r.settled ≡ Ok k → SettledSo k r.passes)
 
-    refused-same : {a b : Refusal} → Refused a ≡ Refused b → a ≡ b
+    refused-same : {a b : Refusal} → ◌≡◌ {A = Result ℕ Refusal} (Err a) (Err b) → a ≡ b
     refused-same e = cc
 
-    at_same : {a b : ℕ} → At a ≡ At b → a ≡ b
+    at_same : {a b : ℕ} → ◌≡◌ {A = Result ℕ Refusal} (Ok a) (Ok b) → a ≡ b
     at_same e = cc
 
-    not-both : {a : ℕ} {b : Refusal} → At a ≡ Refused b → ⊥
+    not-both : {a : ℕ} {b : Refusal} → Ok a ≡ Err b → ⊥
     not-both e = unlike cc
 
     -- a pass before the last is refused
-    early-meets : (n : ℕ) (why : Refusal) → RunsBefore pass m n → pass n false ≡ Failed why → Halts why n
+    early-meets : (n : ℕ) (why : Refusal) → RunsBefore pass m n → pass n false ≡ Err why → Halts why n
     early-meets n why x e =
         let f = first-met (walked g banks) (row_of_pass (listed g) n) (row_of_pass (listed g) (n - 1)) (eqb n 1) false why e in
         let s = stops-meets g banks shown c n x.counted false f.0 why f.1 in
         early x.counted x.below (goes_on n x.unsettled) s.0 s.1 s.2
 
     -- the last pass is refused
-    last-refused : (n k : ℕ) → 1 ≤ n → LastPass g k n → (why : Refusal) → pass n true ≡ Failed why → Halts why n
+    last-refused : (n k : ℕ) → 1 ≤ n → LastPass g k n → (why : Refusal) → pass n true ≡ Err why → Halts why n
     last-refused n k h l why e =
         let f = first-met (walked g banks) (row_of_pass (listed g) n) (row_of_pass (listed g) (n - 1)) (eqb n 1) true why e in
         let s = stops-meets g banks shown c n h true f.0 why f.1 in
         at_last l s.0 s.1 s.2
 
-    decided : (n k : ℕ) → RunsLast pass m n → LastPass g k n → (x : Pass) → pass n true ≡ x → Meets (record { settled = last_of k x; passes = n })
-    decided n k w l (Failed why) e = (
+    decided : (n k : ℕ) → RunsLast pass m n → LastPass g k n → (x : Result ℕ Refusal) → pass n true ≡ x → Meets (record { settled = last_of k x; passes = n })
+    decided n k w l (Err why) e = (
       λ other f. subst (λ (y : Refusal). Halts y n) (refused-same f) (last-refused n k (last-counted n w) l why e),
       λ j f. absurd (not-both (sym f)),
     )
-    decided n k w l (State s) e = tested (eqb s 2) refl
+    decided n k w l (Ok s) e = tested (eqb s 2) refl
       where
-        tested : (t : Bool) → eqb s 2 ≡ t → Meets (record { settled = last_of k (State s); passes = n })
+        tested : (t : Bool) → eqb s 2 ≡ t → Meets (record { settled = last_of k (Ok s); passes = n })
         tested true t = rw t (
           λ why f.
               unsettled l (ended-runs n (last-counted n w) true s e)

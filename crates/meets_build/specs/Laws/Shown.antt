@@ -1,11 +1,10 @@
 -- What is given to `dk_build`, as the library's definitions see it: the lists, a node of a row, a bank's record. Each number that a definition reads
 -- is the one that the sentences name.
-use Rattle.std.specs.Prelude.{◌≡◌, refl, Bool, true, false, List, ℕ, zero, suc, ◌+◌, ◌*◌, ◌/◌, ◌%◌, ◌≤◌, ◌<◌, eqb, ℤ, pos, ◌+ℤ◌, ◌*ℤ◌, length, get_or, take, drop}
+use Rattle.std.specs.Prelude.{◌≡◌, refl, Bool, true, false, List, ℕ, zero, suc, ◌+◌, ◌*◌, ◌/◌, ◌%◌, ◌≤◌, ◌<◌, eqb, ℤ, pos, ◌+ℤ◌, ◌*ℤ◌, length, get_or, take, drop, Some, None, Ok}
 use Rattle.std.proofs.Common.{sym, ap, subst, ◌∙◌, arith, get_or-take, get_or-drop, eqb-true}
 use Rattle.std.proofs.Math.IntN.{+ℤ_assoc}
 use Rattle.std.proofs.lemmas.Bool.{eqb-false}
 use Rattle.prelude.specs.Laws.Bools.{either}
-use Rattle.prelude.specs.declared.Opt.TheVariants.{None, Some}
 use Rattle.prelude.specs.declared.Refusal.TheVariants.{Malformed}
 use Rattle.bankdef.specs.Numbers.{fill_bit as bit_told}
 use Rattle.bankdef.specs.declared.Bankdef.{Bankdef}
@@ -13,7 +12,6 @@ use Rattle.bankdef.specs.declared.Bankdefs.{Bankdefs}
 use Rattle.iter.specs.Laws.Aligned.{never, skips-same}
 use Rattle.iter.specs.Theorems.Aligned.{told-when, four-when, to_none, told-aligns}
 use Rattle.iter.specs.Distance.{tellable, address_in_bits, no_skip, distance_of}
-use Rattle.iter.specs.declared.Distance.TheVariants.{Skips}
 use Rattle.nodes.specs.declared.Node.{Node}
 use Rattle.iter.specs.declared.Skipped.{Skipped}
 use Rattle.nodes.specs.Lists.{Lists, Row, row_at}
@@ -93,7 +91,7 @@ module _ (g : Given) (b : ℕ) (def : Bankdef) (t : Tells g b def) where
   shifted : (p e : ℕ) → address_in_bits def p +ℤ pos e ≡ (start g b *ℤ pos (unit g b)) +ℤ pos (p + e)
   shifted p e = +ℤ_assoc (def.start *ℤ pos def.unit) (pos p) (pos e) ∙ ap (λ (z : ℤ). z +ℤ pos (p + e)) base
 
-  pub distance_is : (p a index : ℕ) (s : Skipped) → distance_of def p a index ≡ Skips s → Distance g b p a s.bits
+  pub distance_is : (p a index : ℕ) (s : Skipped) → distance_of def p a index ≡ Ok s → Distance g b p a s.bits
   distance_is p a index s e =
       either (eqb a 0)
       (λ z.

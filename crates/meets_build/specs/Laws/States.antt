@@ -1,12 +1,12 @@
 -- A pass that has run to its end: a label is resolved, and stable, where the sentences say so, and the pass is unresolved exactly when they say that it is.
-use Rattle.std.specs.Prelude.{◌≡◌, refl, Bool, true, false, ◌⊎◌, ◌↔◌, ℕ, zero, suc, ◌+◌, ◌-◌, ◌/◌, ◌%◌, ◌≤◌, ◌<◌, min, eqb, ℤ, pos, ◌+ℤ◌, get_or}
+use Rattle.std.specs.Prelude.{◌≡◌, refl, Bool, true, false, ◌⊎◌, ◌↔◌, ℕ, zero, suc, ◌+◌, ◌-◌, ◌/◌, ◌%◌, ◌≤◌, ◌<◌, min, eqb, ℤ, pos, ◌+ℤ◌, get_or, Result, Ok}
 use Rattle.std.proofs.Common.{sym, ap, subst, ◌∙◌, inl, inr, ⊎_elim, arith, eqb-true, ne_eqb, le-leb}
 use Rattle.std.proofs.lemmas.Bool.{eqb-false, lt-leb}
 use Rattle.prelude.specs.Laws.Bools.{either}
+use Rattle.prelude.specs.declared.Refusal.{Refusal}
 use Rattle.bankdef.specs.declared.Bankdef.{Bankdef}
 use Rattle.bankdef.specs.declared.Bankdefs.{Bankdefs}
 use Rattle.iter.specs.Address.{units_from}
-use Rattle.iter.specs.declared.Moved.TheVariants.{To}
 use Rattle.nodes.specs.declared.Node.{Node}
 use Rattle.iter.specs.declared.Pos.{Pos}
 use Rattle.resolver.specs.LabelStates.{KnownOnBoundary, SameAddress}
@@ -21,7 +21,6 @@ use Rattle.resolver.specs.PassStates.{node_in}
 use Rattle.resolver.specs.Theorems.PassStates.{small, unresolved-exactly}
 use Rattle.resolver.specs.Passes.{row_of_pass, pass_at}
 use Rattle.resolver.specs.Walked.{state_seen}
-use Rattle.resolver.specs.declared.Pass.TheVariants.{State}
 use Rattle.says.specs.Build as says
 use Rattle.says.specs.Build.{Given, nodes, kind, unit, start, state, In, Sees, Reads, Resolved, Stable, Unresolved}
 use Rattle.meets_sentences.specs.Laws.One.{in_one, sees-one, reads-one}
@@ -94,7 +93,7 @@ module _ (g : Given) (banks : Bankdefs) (shown : Shown g banks) (c : Checked ban
           (in_one g (stands-in g banks shown c r' i goes') (stands-in g banks shown c r i goes))
           (sees-seen g banks shown c r' i h goes' was (prior later i h).seen)
 
-      to_same : {x y : Pos} → To x ≡ To y → x ≡ y
+      to_same : {x y : Pos} → ◌≡◌ {A = Result Pos Refusal} (Ok x) (Ok y) → x ≡ y
       to_same e = cc
 
       -- "stable when its address equals that of the pass before (never in pass 1)"
@@ -178,7 +177,7 @@ module _ (g : Given) (banks : Bankdefs) (shown : Shown g banks) (c : Checked ban
 
   -- ---- what is promised
 
-  module _ (n : ℕ) (counted : 1 ≤ n) (last : Bool) (s : ℕ) (comes : pass_at banks (listed g) n last ≡ State s) (prior : 2 ≤ n → Passes (n - 1) false) where
+  module _ (n : ℕ) (counted : 1 ≤ n) (last : Bool) (s : ℕ) (comes : pass_at banks (listed g) n last ≡ Ok s) (prior : 2 ≤ n → Passes (n - 1) false) where
     pub past_all : Passes n last
     past_all = ran-to-end p (row_of_pass (listed g) n) (row_of_pass (listed g) (n - 1)) (eqb n 1) last s comes
 

@@ -1,6 +1,6 @@
 -- A pass that meets 5 or 7, and one that meets neither: the first node that stops the library's pass is the first that the sentences say, with their
 -- number; a pass that goes past every node runs to its end.
-use Rattle.std.specs.Prelude.{◌≡◌, refl, Bool, true, false, ◌⊎◌, ℕ, zero, suc, ◌+◌, ◌-◌, ◌%◌, ◌≤◌, ◌<◌, min, get_or}
+use Rattle.std.specs.Prelude.{◌≡◌, refl, Bool, true, false, ◌⊎◌, ℕ, zero, suc, ◌+◌, ◌-◌, ◌%◌, ◌≤◌, ◌<◌, min, get_or, Ok, Err}
 use Rattle.std.proofs.Common.{sym, ap, subst, ◌∙◌, inl, inr, ⊎_elim, arith}
 use Rattle.prelude.specs.Refusals.{number_of, place_of}
 use Rattle.prelude.specs.declared.Place.TheVariants.{One}
@@ -12,7 +12,6 @@ use Rattle.iter.specs.AdvanceFacts.{AddsBits, PassesLimit, SightPasses}
 use Rattle.iter.specs.Step.{origin, seen_of}
 use Rattle.iter.specs.StepCases.{standing}
 use Rattle.iter.specs.declared.Lost.{Lost}
-use Rattle.iter.specs.declared.Moved.TheVariants.{To, Refused as Halted}
 use Rattle.iter.specs.declared.Pos.{Pos}
 use Rattle.nodes.specs.Theorems.Sound.{accepted-lists}
 use Rattle.resolver.specs.Laws.Least.{or-past}
@@ -82,7 +81,7 @@ module _ (g : Given) (banks : Bankdefs) (shown : Shown g banks) (c : Checked ban
   -- ---- a node that stops the pass
 
   adds-past : (last : Bool) (i : ℕ) → i < nodes g → Goes g banks shown c r i → (now : Pos)
-      → seen_of (def_at p (row_no g banks r) i) (standing (walk_no g banks shown c r i) (node_no g banks r i)) (node_no g banks r i) ≡ To now → {bits : ℕ}
+      → seen_of (def_at p (row_no g banks r) i) (standing (walk_no g banks shown c r i) (node_no g banks r i)) (node_no g banks r i) ≡ Ok now → {bits : ℕ}
       → AddsBits (def_at p (row_no g banks r) i) now (node_no g banks r i) bits → 4294967295 < now.position + bits → Stops g n last i 5
   adds-past last i h w now e (facts.number k l) past =
       says.move-past h reads-row (sees-walk g banks shown c r i h w now e) (says.adds k l (number_is g banks r i h)) past
@@ -105,7 +104,7 @@ module _ (g : Given) (banks : Bankdefs) (shown : Shown g banks) (c : Checked ban
 
   -- What the walk is stopped for at a node that it comes to is 5.
   five-only : (last : Bool) (i : ℕ) → i < nodes g → ((j : ℕ) → j < i → GoesPast p (row_of_pass (listed g) n) last j) → (why : Refusal)
-      → seen_at p (row_of_pass (listed g) n) i ≡ Halted why → why ≡ PositionPast i
+      → seen_at p (row_of_pass (listed g) n) i ≡ Err why → why ≡ PositionPast i
   five-only last i h all why e =
       ⊎_elim (λ (m : why ≡ Malformed i). absurd (never-four banks (listed g) c shown.whole n i last h all why e (ap number_of m)))
       (λ (m : why ≡ PositionPast i). m)
@@ -122,7 +121,7 @@ module _ (g : Given) (banks : Bankdefs) (shown : Shown g banks) (c : Checked ban
   stop-here last i h all why (inl e) =
       let is = five-only last i h all why e in
       let w = goes_of last i all in
-      let s = would-stop last i h w (step-five-only (def_at p (row_no g banks r) i) (walk_no g banks shown c r i) (node_no g banks r i) (e ∙ ap Halted is)) in
+      let s = would-stop last i h w (step-five-only (def_at p (row_no g banks r) i) (walk_no g banks shown c r i) (node_no g banks r i) (e ∙ ap Err is)) in
       rw is (s, refl)
   stop-here last i h all why (inr x) = rw x.2 (off-here last i h (goes_of last i all) x.0 x.1, refl)
 

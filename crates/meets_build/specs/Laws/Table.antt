@@ -1,6 +1,6 @@
 -- The table of banks that the library makes of what is given: when it has no banks, a bank's record field by field, and the first bank at fault and the
 -- first pair that overlaps are those of the sentences.
-use Rattle.std.specs.Prelude.{◌≡◌, true, false, not, ◌⊎◌, ℕ, ◌-◌, ◌/◌, ◌%◌, ◌≤◌, ◌<◌, min, eqb, leb, length, get_or, replicate}
+use Rattle.std.specs.Prelude.{◌≡◌, true, false, not, ◌⊎◌, ℕ, ◌-◌, ◌/◌, ◌%◌, ◌≤◌, ◌<◌, min, eqb, leb, length, get_or, replicate, Some, None}
 use Rattle.std.proofs.Math.Path.{refl}
 use Rattle.std.proofs.Common.{sym, ap, subst, ◌∙◌, inl, inr, div-one, arith, length-append, length-take, get_or-take, eqb-true, eq-eqb, ne_eqb, leb-true, leb-false, le-leb}
 use Rattle.std.proofs.Math.ListN.{get_or-append}
@@ -8,8 +8,7 @@ use Rattle.std.proofs.lemmas.Bool.{eqb-false, lt-leb, not-true}
 use Rattle.prelude.specs.Laws.Bools.{either, clash, both, unlike}
 use Rattle.prelude.specs.Limits.{max_banks, max_start}
 use Rattle.prelude.specs.Pick.{pick}
-use Rattle.prelude.specs.declared.Opt.TheVariants.{None, Some}
-use Rattle.prelude.specs.declared.Verdict.TheVariants.{Accepted}
+use Rattle.prelude.specs.Verdict.{Accepted}
 use Rattle.bankdef.specs.Check.{banks_of, count_sound, check_of, no_bank}
 use Rattle.bankdef.specs.Numbers as numbers
 use Rattle.bankdef.specs.Numbers.{Faulty, SoundBank}

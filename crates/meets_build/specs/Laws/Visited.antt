@@ -1,15 +1,12 @@
 -- A node as the build visits it: what it offers, and whether it meets 9, 10 or 11, are what the sentences say of it.
-use Rattle.std.specs.Prelude.{◌≡◌, refl, Bool, true, false, List, [], ◌∷◌, ◌⊎◌, ◌↔◌, ℕ, ◌+◌, ◌≤◌, ◌<◌}
+use Rattle.std.specs.Prelude.{◌≡◌, refl, Bool, true, false, List, [], ◌∷◌, ◌⊎◌, ◌↔◌, ℕ, ◌+◌, ◌≤◌, ◌<◌, Some, Option, None}
 use Rattle.std.proofs.Common.{sym, ap, subst, ◌∙◌, inl, inr, arith, leb-true, le-leb}
 use Rattle.prelude.specs.Laws.Bools.{unlike}
 use Rattle.prelude.specs.Laws.Pick.{pick_true, pick-false}
 use Rattle.prelude.specs.Pick.{pick}
-use Rattle.prelude.specs.declared.Opt.{Opt}
-use Rattle.prelude.specs.declared.Opt.TheVariants.{None, Some}
 use Rattle.bankdef.specs.declared.Bankdef.{Bankdef}
 use Rattle.bankdef.specs.declared.Bankdefs.{Bankdefs}
 use Rattle.iter.specs.Address.{out_at}
-use Rattle.iter.specs.declared.Moved.TheVariants.{To}
 use Rattle.nodes.specs.Kinds.{size_of}
 use Rattle.nodes.specs.Laws.Kinds.{adds-so, label-adds-none}
 use Rattle.nodes.specs.declared.Node.{Node}
@@ -71,7 +68,7 @@ module _ (g : Given) (tab : Bankdefs) (shown : Shown g tab) (c : Checked tab (li
       → offer_of visited ≡ interval (o + position_of visited) visited.node.number ∷ []
   offered-at o e k l =
       ap (λ (t : Bool). pick t (bits_at visited.out visited.node) []) ((offered-exactly visited.node).1 (k, l))
-      ∙ ap (λ (x : Opt). bits_at (out_at x (position_of visited)) visited.node) e
+      ∙ ap (λ (x : Option ℕ). bits_at (out_at x (position_of visited)) visited.node) e
 
   -- A node that offers, by the sentences, offers those bits.
   pub offer-when : {x m : ℕ} → Offer g r i x m → offer_of visited ≡ interval x m ∷ []
@@ -85,7 +82,7 @@ module _ (g : Given) (tab : Bankdefs) (shown : Shown g tab) (c : Checked tab (li
 
   none-offered : visited.def.offset ≡ None → offer_of visited ≡ []
   none-offered e =
-      ap (λ (x : Opt). pick (is_offered visited.node) (bits_at (out_at x (position_of visited)) visited.node) []) e ∙ nothing (is_offered visited.node)
+      ap (λ (x : Option ℕ). pick (is_offered visited.node) (bits_at (out_at x (position_of visited)) visited.node) []) e ∙ nothing (is_offered visited.node)
     where
       nothing : (b : Bool) → ◌≡◌ {A = List Entry} (pick b [] []) []
       nothing true = refl
@@ -95,7 +92,7 @@ module _ (g : Given) (tab : Bankdefs) (shown : Shown g tab) (c : Checked tab (li
   pub offer-only : (e : Entry) → offer_of visited ≡ e ∷ [] → Offer g r i e.position e.size
   offer-only e f = by_kind (is_offered visited.node) refl
     where
-      made : (k : (4 ≤ kind g i) × (kind g i ≤ 7)) (o : Opt) → visited.def.offset ≡ o → Offer g r i e.position e.size
+      made : (k : (4 ≤ kind g i) × (kind g i ≤ 7)) (o : Option ℕ) → visited.def.offset ≡ o → Offer g r i e.position e.size
       made k None q = absurd (cons-apart (sym f ∙ none-offered q))
       made k (Some o) q =
           let same : interval (o + position_of visited) visited.node.number ≡ e = cons_same (sym (offered-at o q k.0 k.1) ∙ f) in
@@ -155,7 +152,7 @@ module _ (g : Given) (tab : Bankdefs) (shown : Shown g tab) (c : Checked tab (li
       past_by : {m p q d e : ℕ} → p ≡ q → d ≡ e → m < p + d → m < q + e
       past_by e f k = omega arith
 
-  no-offset : (o : Opt) → visited.def.offset ≡ o → ((x : ℕ) → Offset g visited.bank x → ⊥) → visited.def.offset ≡ None
+  no-offset : (o : Option ℕ) → visited.def.offset ≡ o → ((x : ℕ) → Offset g visited.bank x → ⊥) → visited.def.offset ≡ None
   no-offset None e none = e
   no-offset (Some o) e none = absurd (none o (tells.placed o e))
 

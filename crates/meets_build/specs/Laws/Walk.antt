@@ -1,6 +1,6 @@
 -- The walk of a row that no node stops: the bank that each node stands in, and before each node each bank's position, its known-ness and the bits and whole
 -- units that it has lost, are the ones that the sentences say; and so is what each node sees.
-use Rattle.std.specs.Prelude.{◌≡◌, Bool, true, false, eqb, length, set, replicate}
+use Rattle.std.specs.Prelude.{◌≡◌, Bool, true, false, eqb, length, set, replicate, Ok}
 use Rattle.std.proofs.Math.Path.{refl}
 use Rattle.std.proofs.Common.{sym, ap, subst, ◌∙◌, div-le_self, arith, length-set, get_or-set_same, get_or-set_other, eqb-true, le-leb}
 use Prim.Native.Nat.{ℕ, zero, suc, ◌+◌, ◌*◌, ◌/◌, ◌≤◌, ◌<◌}
@@ -27,7 +27,6 @@ use Rattle.iter.specs.StepFigures as fig
 use Rattle.iter.specs.StepFigures.{Steps, Counts}
 use Rattle.iter.specs.Theorems.StepFigures.{step-told}
 use Rattle.iter.specs.declared.Lost.{Lost}
-use Rattle.iter.specs.declared.Moved.TheVariants.{To, Refused as Stopped}
 use Rattle.nodes.specs.declared.Node.{Node}
 use Rattle.iter.specs.declared.Pos.{Pos}
 use Rattle.iter.specs.declared.Skipped.{Skipped}
@@ -273,12 +272,12 @@ module _ (g : Given) (banks : Bankdefs) (shown : Shown g banks) (c : Checked ban
 
   -- What node i sees in the walk is what it sees.
   pub sees-walk : (i : ℕ) → i < nodes g → Goes i → (now : Pos)
-      → seen_of (def_at p (row_no g banks r) i) (standing (walk_no i) (node_no g banks r i)) (node_no g banks r i) ≡ To now
+      → seen_of (def_at p (row_no g banks r) i) (standing (walk_no i) (node_no g banks r i)) (node_no g banks r i) ≡ Ok now
       → Sees g r i (bank_no i) now.position now.known
   sees-walk i h w now e =
       let x = walk-good i (omega arith) w (bank_no i) (one-of-16 i h w) in
       sees-of g banks shown r i h (walk_no i) (def_at p (row_no g banks r) i) (tells-here i h w) (stands-in i w) x.0 x.1 now
       (sight-told (def_at p (row_no g banks r) i) (standing (walk_no i) (node_no g banks r i)) (node_no g banks r i)) (ap told_moved e)
 
-  pub sees-seen : (i : ℕ) → i < nodes g → Goes i → (now : Pos) → seen_at p (row_no g banks r) i ≡ To now → Sees g r i (bank_no i) now.position now.known
+  pub sees-seen : (i : ℕ) → i < nodes g → Goes i → (now : Pos) → seen_at p (row_no g banks r) i ≡ Ok now → Sees g r i (bank_no i) now.position now.known
   sees-seen i h w now e = sees-walk i h w now (sees-before (def_at p (row_no g banks r) i) (walk_no i) (node_no g banks r i) now e)

@@ -1,20 +1,17 @@
 -- `dk_build` by its contract, where it is refused at a node of the build: the outcome is one that the sentences say, whole.
-use Rattle.std.specs.Prelude.{◌≡◌, ℕ, ◌-◌, ◌≤◌, min}
+use Rattle.std.specs.Prelude.{◌≡◌, ℕ, ◌-◌, ◌≤◌, min, Err, Ok}
 use Rattle.std.proofs.Math.Path.{refl}
 use Rattle.std.proofs.Common.{sym, ap, subst, ◌∙◌}
 use Rattle.prelude.specs.Laws.Bools.{unlike}
 use Rattle.prelude.specs.declared.Refusal.{Refusal}
-use Rattle.prelude.specs.declared.Verdict.{Verdict}
-use Rattle.prelude.specs.declared.Verdict.TheVariants.{Accepted, Refused as TurnedAway}
+use Rattle.prelude.specs.Verdict.{Verdict, Accepted}
 use Rattle.bankdef.specs.Check.{check_of}
 use Rattle.nodes.specs.Lists.{lists_of}
 use Rattle.output.specs.OffersMade.{FirstRefused}
 use Rattle.output.specs.Output as out
 use Rattle.output.specs.Output.{room_of, settled_of, passes_of, build_of, Builds}
-use Rattle.output.specs.declared.Build.TheVariants.{Refused}
 use Rattle.resolver.specs.Layout.{Checked, unless, layout_of}
 use Rattle.resolver.specs.Passes.{resolution_of}
-use Rattle.resolver.specs.declared.Settled.TheVariants.{At, Refused as Unsettled}
 use Rattle.resolver.specs.declared.Resolution.{Resolution}
 use Rattle.c_tables.specs.Tables.{choices_by}
 use Rattle.c_answers.specs.Told.{layout_told}
@@ -32,13 +29,13 @@ use Rattle.meets_build.specs.Laws.AtNode.{call, row_here}
 use Rattle.meets_build.specs.Laws.Refused.{build-refused}
 
 module _ (g : Given) (typed : Typed g) where
-  never : {k : ℕ} {why : Refusal} → Unsettled why ≡ At k → ⊥
+  never : {k : ℕ} {why : Refusal} → Err why ≡ Ok k → ⊥
   never e = unlike cc
 
   -- an accepted layout has passed its checks
   pub record Accepts (k : ℕ) : Type 0 where
     pub checked : Checked (table g) (listed g) g.fill
-    pub settled : (resolution_of (table g) (listed g) g.limit).settled ≡ At k
+    pub settled : (resolution_of (table g) (listed g) g.limit).settled ≡ Ok k
     pub passes : passes_of (input_of g typed) ≡ (resolution_of (table g) (listed g) g.limit).passes
 
   abbrev res : Resolution
@@ -55,7 +52,7 @@ module _ (g : Given) (typed : Typed g) where
   layout-at v w e f =
       opens ∙ ap (λ (x : Verdict). unless x (unless (lists_of (table g).len (listed g) g.fill) res)) e ∙ ap (λ (x : Verdict). unless v (unless x res)) f
 
-  pub accepts : (k : ℕ) → settled_of (input_of g typed) ≡ At k → Accepts k
+  pub accepts : (k : ℕ) → settled_of (input_of g typed) ≡ Ok k → Accepts k
   accepts k e = by (check_of (table g)) (lists_of (table g).len (listed g) g.fill) refl refl
     where
       by : (v w : Verdict) → check_of (table g) ≡ v → lists_of (table g).len (listed g) g.fill ≡ w → Accepts k
@@ -66,11 +63,11 @@ module _ (g : Given) (typed : Typed g) where
             settled = sym (ap (λ (x : Resolution). x.settled) same) ∙ e;
             passes = ap (λ (x : Resolution). x.passes) same;
           }
-      by Accepted (TurnedAway why) t f = absurd (never (sym (ap (λ (x : Resolution). x.settled) (layout-at Accepted (TurnedAway why) t f)) ∙ e))
-      by (TurnedAway why) w t f = absurd (never (sym (ap (λ (x : Resolution). x.settled) (layout-at (TurnedAway why) w t f)) ∙ e))
+      by Accepted (Err why) t f = absurd (never (sym (ap (λ (x : Resolution). x.settled) (layout-at Accepted (Err why) t f)) ∙ e))
+      by (Err why) w t f = absurd (never (sym (ap (λ (x : Resolution). x.settled) (layout-at (Err why) w t f)) ∙ e))
 
   module _ (old : out.Lent) (r : DkLayout) (new : out.Lent) (answer : r ≡ layout_told (build_of (input_of g typed) (room_of old)))
-      (built : Builds (input_of g typed) old (build_of (input_of g typed) (room_of old)) new) (k : ℕ) (settled : settled_of (input_of g typed) ≡ At k) where
+      (built : Builds (input_of g typed) old (build_of (input_of g typed) (room_of old)) new) (k : ℕ) (settled : settled_of (input_of g typed) ≡ Ok k) where
     passes_of_lem : (build_of (input_of g typed) (room_of old)).passes ≡ passes_of (input_of g typed)
     unfolding build_of
     passes_of_lem = refl
@@ -112,7 +109,7 @@ module _ (g : Given) (typed : Typed g) where
         b
 
     -- A build that is refused at a node, 9 to 13.
-    pub node-meets : (why : Refusal) → (build_of (input_of g typed) (room_of old)).build ≡ Refused why
+    pub node-meets : (why : Refusal) → (build_of (input_of g typed) (room_of old)).build ≡ Err why
         → FirstRefused (call g typed is ck old (build_of (input_of g typed) (room_of old)) new built) why
         → BuildSays g (lent_so old) (outcome g typed old r new answer built)
     node-meets why e f =

@@ -1,10 +1,9 @@
 -- Every outcome of `dk_build` meets its sentences: whatever it is given and lent, what its contract tells of the call is what document 01 and document 02 say.
-use Rattle.std.specs.Prelude.{◌≡◌, refl}
+use Rattle.std.specs.Prelude.{◌≡◌, refl, Result, ℕ, Err, Ok}
 use Rattle.std.proofs.Common.{sym, ap, subst}
+use Rattle.prelude.specs.declared.Refusal.{Refusal}
 use Rattle.output.specs.Output as out
 use Rattle.output.specs.Output.{Builds, build_of, room_of, settled_of}
-use Rattle.resolver.specs.declared.Settled.{Settled}
-use Rattle.resolver.specs.declared.Settled.TheVariants.{At, Refused as Unsettled}
 use Rattle.c_model.specs.Tables.{TablesTold}
 use Rattle.nodes.specs.Lists.{lists}
 use Rattle.output.specs.Output.{input, lent}
@@ -33,6 +32,6 @@ pub build-meets : (g : Given) → Typed g → (old : Lent) (r : DkLayout) (new :
     → BuildSays g old (record { answer = r; lent = new })
 build-meets g typed old r new told = by (settled_of (input_of g typed)) refl
   where
-    by : (s : Settled) → settled_of (input_of g typed) ≡ s → BuildSays g old (record { answer = r; lent = new })
-    by (Unsettled why) e = refused-meets g typed (lent_of old) r (lent_of new) told.answer told.built why e
-    by (At k) e = settled-meets g typed (lent_of old) r (lent_of new) told.answer told.built k e
+    by : (s : Result ℕ Refusal) → settled_of (input_of g typed) ≡ s → BuildSays g old (record { answer = r; lent = new })
+    by (Err why) e = refused-meets g typed (lent_of old) r (lent_of new) told.answer told.built why e
+    by (Ok k) e = settled-meets g typed (lent_of old) r (lent_of new) told.answer told.built k e

@@ -1,17 +1,16 @@
 -- Meets and decides together: the outcome of a call of `dk_build` is the one outcome that the sentences leave, for everything that it can be given and lent.
-use Rattle.std.specs.Prelude.{◌≡◌, refl, Bool, true, false, ◌↔◌, ℕ, ◌*◌, ltb}
+use Rattle.std.specs.Prelude.{◌≡◌, refl, Bool, true, false, ◌↔◌, ℕ, ◌*◌, ltb, Result, Err, Ok}
 use Rattle.std.proofs.Common.{sym, ap, subst, ◌∙◌}
 use Rattle.prelude.specs.Pick.{pick}
 use Rattle.prelude.specs.Told.{refuses, gives}
 use Rattle.prelude.specs.declared.Place.TheVariants.{One}
 use Rattle.prelude.specs.declared.Refusal.TheVariants.{TooShort}
+use Rattle.prelude.specs.declared.Refusal.{Refusal}
 use Rattle.output.specs.Output as out
 use Rattle.output.specs.Output.{Input, Room, room_of, room_for, placed_build, settled_build, settled_of, passes_of, closed_of, visits_of, build_of, left_by, Builds}
 use Rattle.output.specs.Output.{told_build, room_told, placed_told, settled_told}
-use Rattle.output.specs.declared.Build.TheVariants.{Done, Refused}
+use Rattle.output.specs.Built.{done_with}
 use Rattle.build_plan.specs.Placing.{Placed, holds, stops, placed_all}
-use Rattle.resolver.specs.declared.Settled.{Settled}
-use Rattle.resolver.specs.declared.Settled.TheVariants.{At, Refused as Unsettled}
 use Rattle.c_answers.specs.Told.{layout_told}
 use Rattle.c_answers.specs.declared.DkLayout.{DkLayout}
 use Rattle.says.specs.Build.{Given, Lent, Outcome, BuildSays}
@@ -31,7 +30,7 @@ room-told : (room : Room) (k bits spans : ℕ) → told_build (room_for room k b
 room-told room k bits spans = by (ltb (8 * room.image) bits) (ltb room.spans spans)
   where
     by : (a b : Bool)
-        → told_build (pick a (Refused (TooShort 0)) (pick b (Refused (TooShort 1)) (Done k bits spans)))
+        → told_build (pick a (Err (TooShort 0)) (pick b (Err (TooShort 1)) (done_with k bits spans)))
         ≡ pick a (refuses 14 (One 0)) (pick b (refuses 14 (One 1)) (gives (record { k = k; length = bits; spans = spans })))
     by true b = refl
     by false true = refl
@@ -41,9 +40,9 @@ placed-told : (room : Room) (k bits spans : ℕ) (p : Placed) → told_build (pl
 placed-told room k bits spans (stops why) = refl
 placed-told room k bits spans (holds s) = room-told room k bits spans
 
-settled-told : (b : Input) (room : Room) (s : Settled) → told_build (settled_build b room (passes_of b) s) ≡ settled_told b room s
-settled-told b room (Unsettled why) = refl
-settled-told b room (At k) = placed-told room k _ _ (placed_all (closed_of b) (visits_of b (passes_of b)))
+settled-told : (b : Input) (room : Room) (s : Result ℕ Refusal) → told_build (settled_build b room (passes_of b) s) ≡ settled_told b room s
+settled-told b room (Err why) = refl
+settled-told b room (Ok k) = placed-told room k _ _ (placed_all (closed_of b) (visits_of b (passes_of b)))
 
 module _ (g : Given) (typed : Typed g) (old : Lent) where
   -- the outcome by the definitions

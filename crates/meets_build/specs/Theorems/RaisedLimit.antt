@@ -1,20 +1,20 @@
 -- Ticket 14, "Raising the pass limit is harmless": "when a layout is accepted with K below its limit, every limit above K gives the same K, passes run,
 -- image, spans and blocks, over the same rows", padding too. The blocks are `dk_blocks`' of the spans that the build leaves. That passes run never exceed the
 -- larger of 1 and the limit is `passes-within-limit` of meets_sentences.
-use Rattle.std.specs.Prelude.{◌≡◌, refl, List, ℕ, ◌≤◌, ◌<◌, take}
+use Rattle.std.specs.Prelude.{◌≡◌, refl, List, ℕ, ◌≤◌, ◌<◌, take, Err, Ok, Result}
 use Rattle.std.proofs.Common.{sym, ap, subst, ◌∙◌, arith}
 use Rattle.prelude.specs.Refusals.{number_of}
 use Rattle.prelude.specs.Theorems.Told.{number-some}
+use Rattle.prelude.specs.declared.Refusal.{Refusal}
 use Rattle.output.specs.Calls.{Accepted}
 use Rattle.output.proofs.CallsLaws.{settled_is}
 use Rattle.output.specs.Output as out
 use Rattle.output.specs.Output.{room_of, build_of}
 use Rattle.output.specs.Laws.RaisedLimit.{same-outcome-above}
-use Rattle.output.specs.declared.Build.{Build}
-use Rattle.output.specs.declared.Build.TheVariants.{Done, Refused}
 use Rattle.output.specs.declared.Output.{Output}
-use Rattle.resolver.specs.declared.Settled.TheVariants.{At}
 use Rattle.output.specs.Output.{settled_of}
+use Rattle.output.specs.declared.Built.{Built}
+use Rattle.output.specs.Built.{done_with}
 use Rattle.c_answers.specs.Told.{layout_told}
 use Rattle.says.specs.Blocks as blocks
 use Rattle.says.specs.Blocks.{DkBlocksSay}
@@ -53,19 +53,19 @@ typed-with g t n h =
 
 -- an answer that refuses nothing
 abbrev DoneSo : Output → Type 0
-DoneSo x = (bits : ℕ) × (spans : ℕ) × (x.build ≡ Done (layout_told x).k bits spans)
+DoneSo x = (bits : ℕ) × (spans : ℕ) × (x.build ≡ done_with (layout_told x).k bits spans)
 
 done-so : (x : Output) → (layout_told x).refusal ≡ 0 → DoneSo x
 done-so x e = by x.build refl
   where
-    by : (y : Build) → x.build ≡ y → DoneSo x
-    by (Done k bits spans) f = (bits, spans, f ∙ ap (λ (j : ℕ). Done j bits spans) (sym (told-k f)))
+    by : (y : Result Built Refusal) → x.build ≡ y → DoneSo x
+    by (Ok ended) f = (ended.length, ended.spans, f ∙ ap (λ (j : ℕ). done_with j ended.length ended.spans) (sym (told-k f)))
       where
-        told-k : x.build ≡ Done k bits spans → (layout_told x).k ≡ k
+        told-k : x.build ≡ Ok ended → (layout_told x).k ≡ ended.k
         told-k f = rw f
-    by (Refused why) f = absurd (let z = told-number f in omega (arith, number-some why))
+    by (Err why) f = absurd (let z = told-number f in omega (arith, number-some why))
       where
-        told-number : x.build ≡ Refused why → (layout_told x).refusal ≡ number_of why
+        told-number : x.build ≡ Err why → (layout_told x).refusal ≡ number_of why
         told-number f = rw f
 
 -- what the spans that a build leaves give as blocks, in two lists lent for them: the sentences of `dk_blocks`
@@ -95,7 +95,7 @@ module _ (g : Given) (typed : Typed g) (old : Lent) (n : ℕ) (byte : n ≤ 255)
       k : ℕ
       k = (layout_told given).k
 
-      accepted : (bits spans : ℕ) → given.build ≡ Done k bits spans → Accepted
+      accepted : (bits spans : ℕ) → given.build ≡ done_with k bits spans → Accepted
       accepted bits spans e =
           record {
             call = record {

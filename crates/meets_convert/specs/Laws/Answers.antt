@@ -1,5 +1,5 @@
 -- A call's outcome by the tests of the definition, one after the other.
-use Rattle.std.specs.Prelude.{◌≡◌, Bool, true, false, List, [], ◌++◌, ◌⊎◌, ltb, eqb, get_or, drop}
+use Rattle.std.specs.Prelude.{◌≡◌, Bool, true, false, List, [], ◌++◌, ◌⊎◌, ltb, eqb, get_or, drop, Result, Ok}
 use Rattle.std.proofs.Math.Path.{refl}
 use Rattle.std.proofs.Common.{sym, ap, subst, ◌∙◌, arith, length-append, length-drop, get_or-append-add, get_or-drop}
 use Rattle.std.proofs.Math.Logic.{inl, inr, ⊎_elim}
@@ -11,13 +11,12 @@ use Rattle.prelude.specs.Laws.Bools.{either, clash, unlike}
 use Rattle.prelude.specs.Limits.{max_nodes, max_rows}
 use Rattle.prelude.specs.Pick.{pick}
 use Rattle.prelude.specs.declared.Refusal.TheVariants.{Malformed}
+use Rattle.prelude.specs.declared.Refusal.{Refusal}
 use Rattle.bankdef.specs.Search.{first_where}
 use Rattle.bankdef.specs.Laws.Search.{not-before, first_passes}
 use Rattle.form_fields.specs.Contents as made
 use Rattle.form_fields.specs.Contents.{Contents, written}
 use Rattle.form_convert.specs.Convert.{stray, answer_of, answer_for, out_after, drops_none}
-use Rattle.form_convert.specs.declared.Conversion.{Conversion}
-use Rattle.form_convert.specs.declared.Conversion.TheVariants.{Converted}
 use Rattle.form_rewrite.specs.Turning.{strays, alone, drops_bit}
 use Rattle.thm_conversions.specs.Theorems.Exactly.{drops-bit-exactly}
 use Rattle.c_answers.specs.Counts.{conversion_count}
@@ -43,8 +42,8 @@ begins-so new old h =
     }
 
 -- one test
-step : {X : Type 0} (Met : X → Type 0) (refuse : X → Outcome) (Then : Outcome → Type 0) (tell : Conversion → Outcome) (t : Bool)
-    (this rest : Conversion) (x : X)
+step : {X : Type 0} (Met : X → Type 0) (refuse : X → Outcome) (Then : Outcome → Type 0) (tell : Result ℕ Refusal → Outcome) (t : Bool)
+    (this rest : Result ℕ Refusal) (x : X)
     → tell this ≡ refuse x → (t ≡ true → Met x) → (t ≡ false → (z : X) → Met z → ⊥) → (t ≡ false → Then (tell rest))
     → Tries Met refuse Then (tell (pick t this rest))
 step Met refuse Then tell true this rest x e met none then = subst (Tries Met refuse Then) (sym e) (words.refused x (met refl))
@@ -81,7 +80,7 @@ module _ (f : Form) (file old : List ℕ) (c d : Contents) (fits : made.Fits (ki
   abbrev result : List ℕ
   result = written (kind (other f)) d
 
-  abbrev pub outcome_of : Conversion → Outcome
+  abbrev pub outcome_of : Result ℕ Refusal → Outcome
   outcome_of a = record { answer = conversion_count a; out = out_after a result old }
 
   result-is : result ≡ bytes (other f) (held d)
@@ -117,9 +116,9 @@ module _ (f : Form) (file old : List ℕ) (c d : Contents) (fits : made.Fits (ki
       let first = not-before (strays 0) [] c.nodes i y.1 (of-strays (get_or c.nodes i []) (y.2, y.3)) in
       omega (arith, e, first, y.1, ltb-false (stray c) (length c.nodes) t)
 
-  wrote : ltb (length old) (length result) ≡ false → Writes f file old (bytes (other f) (held d)) (outcome_of (Converted (length result)))
+  wrote : ltb (length old) (length result) ≡ false → Writes f file old (bytes (other f) (held d)) (outcome_of (Ok (length result)))
   wrote t =
-      subst (λ (l : List ℕ). Writes f file old l (outcome_of (Converted (length result)))) result-is
+      subst (λ (l : List ℕ). Writes f file old l (outcome_of (Ok (length result)))) result-is
       (says.writes (begins-so result old (ltb-false (length old) (length result) t)))
 
   pub answer-meets : Tried f file old (other f) (held c) (held d) (outcome_of (answer_for (kind (other f)) c d (drops_of f c) (length old)))

@@ -1,13 +1,12 @@
 -- A conversion, from its sentences, as the definitions tell it: what was made of a file, and that it holds bytes.
-use Rattle.std.specs.Prelude.{◌≡◌, refl, Bool, List, ℕ, ◌≤◌}
+use Rattle.std.specs.Prelude.{◌≡◌, refl, Bool, List, ℕ, ◌≤◌, Result, Ok, Err}
 use Rattle.std.proofs.Common.{sym, ap, subst, ◌∙◌, arith}
 use Rattle.prelude.specs.Theorems.Told.{number-some}
+use Rattle.prelude.specs.declared.Refusal.{Refusal}
 use Rattle.form_fields.specs.declared.Kind.{Kind}
 use Rattle.form_fields.specs.Contents.{Contents}
 use Rattle.form_fields.specs.Whole.{Bytes}
 use Rattle.form_convert.specs.Convert.{Converts}
-use Rattle.form_convert.specs.declared.Conversion.{Conversion}
-use Rattle.form_convert.specs.declared.Conversion.TheVariants.{Converted, Refused}
 use Rattle.thm_conversions.specs.Theorems.Conversions.{turned-file}
 use Rattle.c_answers.specs.Counts.{conversion_count}
 use Rattle.c_answers.specs.declared.DkCount.{DkCount}
@@ -25,25 +24,25 @@ use Rattle.meets_convert.specs.Theorems.Exactly.{convert-told}
 
 module _ (from to : Kind) (turn : Contents → Contents) (drops : Contents → Bool) (file old : List ℕ) (r : DkCount) (new : List ℕ)
     (told : WayTold from to turn drops file old r new) where
-  abbrev answer : Conversion
+  abbrev answer : Result ℕ Refusal
   answer = answer_in from to turn drops file old
 
   pub any-call : Converts from to turn drops file old answer new
   any-call = record { is = refl; out = told.out }
 
-  not-refused : r.refusal ≡ 0 → answer ≡ Converted r.count
+  not-refused : r.refusal ≡ 0 → answer ≡ Ok r.count
   not-refused zero = go answer refl
     where
-      go : (a : Conversion) → answer ≡ a → answer ≡ Converted r.count
-      go (Refused why) e =
+      go : (a : Result ℕ Refusal) → answer ≡ a → answer ≡ Ok r.count
+      go (Err why) e =
           let same = told.answer ∙ ap conversion_count e in
           absurd (omega (arith, ap (λ (x : DkCount). x.refusal) same, zero, number-some why))
-      go (Converted n) e =
+      go (Ok n) e =
           let same = told.answer ∙ ap conversion_count e in
-          e ∙ ap Converted (sym (ap (λ (x : DkCount). x.count) same))
+          e ∙ ap Ok (sym (ap (λ (x : DkCount). x.count) same))
 
-  pub converted : r.refusal ≡ 0 → Converts from to turn drops file old (Converted r.count) new
-  converted zero = subst (λ (a : Conversion). Converts from to turn drops file old a new) (not-refused zero) any-call
+  pub converted : r.refusal ≡ 0 → Converts from to turn drops file old (Ok r.count) new
+  converted zero = subst (λ (a : Result ℕ Refusal). Converts from to turn drops file old a new) (not-refused zero) any-call
 
 -- ---- a call that was not refused, from its sentences
 
@@ -52,7 +51,7 @@ low form-1 = omega arith
 low form-2 = omega arith
 
 module _ (f : Form) (file old : List ℕ) (v : Outcome) (small : Bytes file) (says : ConvertSays f file old v) (zero : v.answer.refusal ≡ 0) where
-  pub called : Converts (kind f) (kind (other f)) (turn f) (drops_of f) file old (Converted v.answer.count) v.out
+  pub called : Converts (kind f) (kind (other f)) (turn f) (drops_of f) file old (Ok v.answer.count) v.out
   called =
       converted (kind f) (kind (other f)) (turn f) (drops_of f) file old v.answer v.out (convert-told f file small old v says) zero
 

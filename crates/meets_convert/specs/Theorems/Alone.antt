@@ -1,9 +1,9 @@
 -- A one-bank form 2 file that uses bank 0 is refused 9, and is accepted once it has gone back to form 1 (docs/DECISIONS.md): one bank of unit 8, a reserve of
 -- 8 bits, limit 1, in both forms.
-use Rattle.std.specs.Prelude.{◌≡◌, refl, Bool, true, ◌&&◌, List, [], ◌∷◌, ℕ, ltb, replicate}
+use Rattle.std.specs.Prelude.{◌≡◌, refl, Bool, true, ◌&&◌, List, [], ◌∷◌, ℕ, ltb, replicate, None, Result}
 use Rattle.std.proofs.Common.{ap, ◌∙◌, ltb-true}
 use Rattle.prelude.specs.Laws.Bools.{both}
-use Rattle.prelude.specs.declared.Opt.TheVariants.{None}
+use Rattle.prelude.specs.declared.Refusal.{Refusal}
 use Rattle.form_fields.specs.Contents.{bytes16, field, flat, written}
 use Rattle.form_fields.specs.Kind.{form1, form2}
 use Rattle.form_fields.specs.Whole.{Bytes}
@@ -12,7 +12,7 @@ use Rattle.thm_conversions.specs.Alone.{reserve}
 use Rattle.thm_conversions.specs.Theorems.Alone.{alone-refused-in-form2, alone-accepted-in-form1}
 use Rattle.form_build.specs.Filed.{file_output}
 use Rattle.output.specs.Output.{room_of}
-use Rattle.output.specs.declared.Build.{Build}
+use Rattle.output.specs.declared.Built.{Built}
 use Rattle.c_answers.specs.Told.{build_told, layout_told}
 use Rattle.c_answers.specs.declared.DkLayout.{DkLayout}
 use Rattle.record_lines.specs.Laws.Spelled.{bytes-none, bytes-cons}
@@ -75,4 +75,4 @@ alone-accepted old o says =
     let x = file_output (written form1 (to_form1 reserve)) 0 None room in
     ap (λ (r : DkLayout). r.refusal)
     ((form-told in_form1 bytes-1 0 old o says).answer ∙ ap (λ (f : List ℕ). layout_told (file_output f 0 None room)) is-1)
-    ∙ ap (λ (b : Build). (build_told b x.passes x.padding).refusal) (alone-accepted-in-form1 room)
+    ∙ ap (λ (b : Result Built Refusal). (build_told b x.passes x.padding).refusal) (alone-accepted-in-form1 room)

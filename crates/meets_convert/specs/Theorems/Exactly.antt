@@ -1,11 +1,11 @@
 -- Meets and decides together: what a conversion of a file of bytes says is so of one outcome, whatever is lent. So what follows from its contract follows from
 -- its sentences.
-use Rattle.std.specs.Prelude.{◌≡◌, refl, List, ◌↔◌, ℕ}
+use Rattle.std.specs.Prelude.{◌≡◌, refl, List, ◌↔◌, ℕ, Result}
 use Rattle.std.proofs.Common.{sym, subst}
+use Rattle.prelude.specs.declared.Refusal.{Refusal}
 use Rattle.form_fields.specs.Contents.{written}
 use Rattle.form_fields.specs.Whole.{Bytes, contents_in}
 use Rattle.form_convert.specs.Convert.{out_after}
-use Rattle.form_convert.specs.declared.Conversion.{Conversion}
 use Rattle.c_answers.specs.Counts.{conversion_count}
 use Rattle.c_model.specs.Conversions.{WayTold, answer_in}
 use Rattle.says.specs.Files.{Form}
@@ -17,7 +17,7 @@ use Rattle.meets_convert.specs.Theorems.Decides.{convert-decides}
 use Rattle.meets_convert.specs.Theorems.Meets.{convert-meets}
 
 module _ (f : Form) (file : List ℕ) (small : Bytes file) (old : List ℕ) where
-  abbrev answer : Conversion
+  abbrev answer : Result ℕ Refusal
   answer = answer_in (kind f) (kind (other f)) (turn f) (drops_of f) file old
 
   -- the outcome by the definitions

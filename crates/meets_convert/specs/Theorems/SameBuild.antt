@@ -1,6 +1,6 @@
 -- "The converted file gives the same image and blocks; node numbers in places rise by one" (document 02, Ticket 13), over a call of `dk_to_form2` or
 -- `dk_to_form1` and two of `dk_form` or `dk_form_paged`: the file and what was made of it. One-bank files and the shape that goes back to one bank.
-use Rattle.std.specs.Prelude.{Bool, true, ◌≡◌, ℕ, suc, ◌*◌, ◌-◌, ◌/◌, ◌%◌, ◌≤◌, ◌<◌, length, take, replicate, eqb, ltb, nat_abs}
+use Rattle.std.specs.Prelude.{Bool, true, ◌≡◌, ℕ, suc, ◌*◌, ◌-◌, ◌/◌, ◌%◌, ◌≤◌, ◌<◌, length, take, replicate, eqb, ltb, nat_abs, Some, None, Option, Err, Ok, Result}
 use Rattle.std.proofs.Math.Bool.{false}
 use Rattle.std.proofs.Math.Path.{refl}
 use Rattle.std.proofs.Common.{sym, ap, ap₂, subst, ◌∙◌, inl, inr, arith, to_z}
@@ -14,8 +14,6 @@ use Rattle.prelude.specs.Laws.Bools.{either, clash}
 use Rattle.prelude.specs.Limits.{max_nodes}
 use Rattle.prelude.specs.Refusals.{number_of, place_of}
 use Rattle.prelude.specs.Pick.{pick}
-use Rattle.prelude.specs.declared.Opt.{Opt}
-use Rattle.prelude.specs.declared.Opt.TheVariants.{None, Some}
 use Rattle.prelude.specs.declared.Refusal.{Refusal}
 use Rattle.bankdef.specs.Search.{first_where}
 use Rattle.iter.specs.declared.Lost.{Lost}
@@ -49,9 +47,9 @@ use Rattle.form_build.specs.Paged.{output_in}
 use Rattle.form_build.specs.Theorems.Unique.{one-file-build}
 use Rattle.output.specs.Output as out
 use Rattle.output.specs.Output.{Room, room_of, build_of}
-use Rattle.output.specs.declared.Build.{Build}
-use Rattle.output.specs.declared.Build.TheVariants.{Done, Refused}
 use Rattle.output.specs.declared.Output.{Output}
+use Rattle.output.specs.declared.Built.{Built}
+use Rattle.output.specs.Built.{done_with}
 use Rattle.c_answers.specs.Told.{first_of, second_of, build_told, layout_told}
 use Rattle.c_answers.specs.declared.DkLayout.{DkLayout}
 use Rattle.c_model.specs.Forms.{FormTold}
@@ -109,35 +107,35 @@ size-there flags n e =
     ))
     (λ t. absurd (not_none (sym (ap (λ (b : Bool). pick b (Some n) None) t) ∙ e)))
   where
-    in-it : Opt → ℕ
+    in-it : Option ℕ → ℕ
     in-it None = 1
     in-it (Some m) = m
 
     some_same : {m k : ℕ} → Some m ≡ Some k → m ≡ k
     some_same p = ap in-it p
 
-    not_none : None ≡ Some 0 → ⊥
+    not_none : ◌≡◌ {A = Option ℕ} None (Some 0) → ⊥
     not_none p = omega (arith, ap in-it p)
 
 -- ---- an answer in numbers
 
 -- with a page size or without
-abbrev RisenWith : Opt → List ℕ → (rows fill : ℕ) → (number place second place' second' : ℕ) → Type 0
+abbrev RisenWith : Option ℕ → List ℕ → (rows fill : ℕ) → (number place second place' second' : ℕ) → Type 0
 RisenWith None bank rows fill number place second place' second' = Risen bank rows fill number place second place' second'
 RisenWith (Some page) bank rows fill number place second place' second' = PagedRisen bank rows fill number place second place' second'
 
 -- a build, and what becomes of it
-data Changed (Rise : (number place second place' second' : ℕ) → Type 0) : Build → Build → Type 0 where
-  done : {k bits spans : ℕ} → Changed Rise (Done k bits spans) (Done k bits spans)
+data Changed (Rise : (number place second place' second' : ℕ) → Type 0) : Result Built Refusal → Result Built Refusal → Type 0 where
+  done : {k bits spans : ℕ} → Changed Rise (done_with k bits spans) (done_with k bits spans)
   turns : {why other : Refusal} → number_of other ≡ number_of why
       → Rise (number_of why) (first_of (place_of why)) (second_of (place_of why)) (first_of (place_of other)) (second_of (place_of other))
-      → Changed Rise (Refused why) (Refused other)
+      → Changed Rise (Err why) (Err other)
 
-told-so : (Rise : (number place second place' second' : ℕ) → Type 0) (passes : ℕ) (sums : List Lost) {x y : Build} → Changed Rise x y
+told-so : (Rise : (number place second place' second' : ℕ) → Type 0) (passes : ℕ) (sums : List Lost) {x y : Result Built Refusal} → Changed Rise x y
     → Answers Rise (build_told x passes sums) (build_told y passes (unpadded ∷ get_or sums 0 unpadded ∷ replicate 14 unpadded))
 told-so Rise passes sums done = built.accepted
 told-so Rise passes sums (turns {why} {other} e h) =
-    subst (λ (n : ℕ). Answers Rise (build_told (Refused why) passes sums) (record {
+    subst (λ (n : ℕ). Answers Rise (build_told (Err why) passes sums) (record {
       refusal = n;
       place = first_of (place_of other);
       second = second_of (place_of other);
@@ -250,19 +248,19 @@ module _ (b : List ℕ) (nodes rows : List (List ℕ)) (values : List ℕ) (limi
     paged-numbers (paged.addr i) = built.addr i
 
     -- every answer of the build of such a file
-    changed : (room : Room) (x : Build) → (build_of (input_for form1 c fill) room).build ≡ x
+    changed : (room : Room) (x : Result Built Refusal) → (build_of (input_for form1 c fill) room).build ≡ x
         → Changed (Risen b (length rows) fill) x (raised_build (input_for form1 c fill) x)
-    changed room (Done k bits spans) e = done
-    changed room (Refused why) e = let z = rises (input_for form1 c fill) one room why e in turns (same_number z) (in-numbers z)
+    changed room (Ok ended) e = done
+    changed room (Err why) e = let z = rises (input_for form1 c fill) one room why e in turns (same_number z) (in-numbers z)
 
-    paged-changed : (page : ℕ) (room : Room) (x : Build) → (output_in (Some page) (input_for form1 c fill) room).build ≡ x
+    paged-changed : (page : ℕ) (room : Room) (x : Result Built Refusal) → (output_in (Some page) (input_for form1 c fill) room).build ≡ x
         → Changed (PagedRisen b (length rows) fill) x (profile_build (input_for form1 c fill) x)
-    paged-changed page room (Done k bits spans) e = done
-    paged-changed page room (Refused why) e =
+    paged-changed page room (Ok ended) e = done
+    paged-changed page room (Err why) e =
         let z = paged-rises (input_for form1 c fill) one page room why e in
         turns (same-paged-number z) (paged-numbers z)
 
-    answers : (page : Opt) (room : Room) → Answers (RisenWith page b (length rows) fill) (layout_told (output_in page (input_for form1 c fill) room))
+    answers : (page : Option ℕ) (room : Room) → Answers (RisenWith page b (length rows) fill) (layout_told (output_in page (input_for form1 c fill) room))
         (layout_told (raised_in page (input_for form1 c fill) (output_in page (input_for form1 c fill) room)))
     answers None room =
         let o = build_of (input_for form1 c fill) room in
@@ -297,10 +295,10 @@ one-outcome : {a b : Outcome} → b.answer ≡ a.answer → lent_of b.lent ≡ l
 one-outcome e l = ap₂ (λ (r : DkLayout) (x : out.Lent). record { answer = r; lent = lent_so x }) e l
 
 -- a contract of a file's build, of an outcome of the sentences
-abbrev Told : List ℕ → ℕ → Opt → Lent → Outcome → Type 0
+abbrev Told : List ℕ → ℕ → Option ℕ → Lent → Outcome → Type 0
 Told file fill page old x = FormTold file fill page (lent_of old) x.answer (lent_of x.lent)
 
-module _ (filled : Filled) (x : Contents) (single : Single x) (fill : ℕ) (page : Opt) (old : Lent) (a b : Outcome) where
+module _ (filled : Filled) (x : Contents) (single : Single x) (fill : ℕ) (page : Option ℕ) (old : Lent) (a b : Outcome) where
   said_of : (room : Room) → Answers (RisenWith page (get_or x.banks 0 []) (length x.rows) fill) (layout_told (output_in page (input_for form1 x fill) room))
       (layout_told (raised_in page (input_for form1 x fill) (output_in page (input_for form1 x fill) room)))
   said_of room =
@@ -330,7 +328,7 @@ module _ (filled : Filled) (x : Contents) (single : Single x) (fill : ℕ) (page
 -- a one-bank file that was converted to form 2
 module _ (file out : List ℕ) (v : convert.Outcome) (small : Bytes file) (first : ConvertSays form-1 file out v) (nought : v.answer.refusal ≡ 0) (h : Held)
     (sound : Sound form-1 file h) (one : length h.banks ≡ 1) (fill : ℕ) (old : Lent) (a b : Outcome) where
-  to-form2 : Filled → (page : Opt) → Told file fill page old a → Told (made v) fill page old b
+  to-form2 : Filled → (page : Option ℕ) → Told file fill page old a → Told (made v) fill page old b
       → SameBuild (RisenWith page (get_or h.banks 0 []) (length h.rows) fill) a b
   to-form2 filled page told-a told-b =
       let same : contents_in form1 file ≡ contents h = sound-contents sound in
@@ -344,7 +342,7 @@ module _ (file out : List ℕ) (v : convert.Outcome) (small : Bytes file) (first
 -- a file with the shape, which was converted back: the one-bank file is what was made
 module _ (file out : List ℕ) (v : convert.Outcome) (small : Bytes file) (first : ConvertSays form-2 file out v) (nought : v.answer.refusal ≡ 0) (h d : Held)
     (sound : Sound form-2 file h) (shape : ShapeOf d h) (fill : ℕ) (old : Lent) (a b : Outcome) where
-  to-form1 : Filled → (page : Opt) → Told (made v) fill page old a → Told file fill page old b
+  to-form1 : Filled → (page : Option ℕ) → Told (made v) fill page old a → Told file fill page old b
       → SameBuild (RisenWith page (get_or d.banks 0 []) (length d.rows) fill) a b
   to-form1 filled page told-a told-b =
       let same : contents_in form2 file ≡ contents h = sound-contents sound in
@@ -399,7 +397,7 @@ shape-same-paged-build file out v small first nought h d sound shape fill page o
 -- ---- other files: one outcome, the answer and everything lent
 
 other-banks : (file out : List ℕ) (v : convert.Outcome) → Bytes file → ConvertSays form-1 file out v → v.answer.refusal ≡ 0
-    → (h : Held) → Sound form-1 file h → (length h.banks ≡ 1 → ⊥) → (fill : ℕ) (page : Opt) (old : Lent) (a b : Outcome)
+    → (h : Held) → Sound form-1 file h → (length h.banks ≡ 1 → ⊥) → (fill : ℕ) (page : Option ℕ) (old : Lent) (a b : Outcome)
     → Told file fill page old a → Told (made v) fill page old b → b ≡ a
 other-banks file out v small first nought h sound more fill page old a b told-a told-b =
     let call = called form-1 file out v small first nought in
@@ -424,7 +422,7 @@ other-banks-same-paged-build file out v small first nought h sound more fill pag
 
 plain : (file out : List ℕ) (v : convert.Outcome) → Bytes file → ConvertSays form-2 file out v → v.answer.refusal ≡ 0
     → (h : Held) → Sound form-2 file h → (length h.banks ≡ 1 → ⊥) → ((d : Held) → ShapeOf d h → ⊥)
-    → (fill : ℕ) (page : Opt) (old : Lent) (a b : Outcome) → Told file fill page old a → Told (made v) fill page old b → b ≡ a
+    → (fill : ℕ) (page : Option ℕ) (old : Lent) (a b : Outcome) → Told file fill page old a → Told (made v) fill page old b → b ≡ a
 plain file out v small first nought h sound more none fill page old a b told-a told-b =
     let call = called form-2 file out v small first nought in
     let c = contents_in form2 file in

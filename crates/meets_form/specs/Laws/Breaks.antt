@@ -1,5 +1,5 @@
 -- Where a file breaks: the fields that the definitions count are those with which a file may begin, and no more.
-use Rattle.std.specs.Prelude.{◌≡◌, true, false, ◌&&◌, List, ltb, eqb}
+use Rattle.std.specs.Prelude.{◌≡◌, true, false, ◌&&◌, List, ltb, eqb, Err, Ok}
 use Rattle.std.proofs.Math.Path.{refl, sym, ap}
 use Rattle.std.proofs.Common.{ap₂, subst, ◌∙◌}
 use Prim.Native.Nat.{ℕ, zero, suc, ◌+◌, ◌*◌, ◌-◌, ◌≤◌, ◌<◌}
@@ -12,7 +12,6 @@ use Rattle.prelude.specs.Laws.Bools.{both, clash, unlike}
 use Rattle.prelude.specs.Pick.{pick}
 use Rattle.prelude.specs.declared.Refusal.{Refusal}
 use Rattle.prelude.specs.declared.Refusal.TheVariants.{Malformed}
-use Rattle.form_fields.specs.declared.Form.TheVariants.{Sound as SoundForm, Broken as BrokenForm}
 use Rattle.form_fields.specs.declared.Kind.{Kind}
 use Rattle.form_fields.specs.declared.Shape.{Shape}
 use Rattle.form_fields.specs.Kind.{form2, headed, begins2}
@@ -456,17 +455,17 @@ module _ (f : Form) (file : List ℕ) where
     pub refusal : why ≡ Malformed index
     pub says : Broken f file index
 
-  module _ (why : Refusal) (e : form_in k file ≡ BrokenForm why) where
-    same : {r : Refusal} → form_in k file ≡ BrokenForm r → why ≡ r
+  module _ (why : Refusal) (e : form_in k file ≡ Err why) where
+    same : {r : Refusal} → form_in k file ≡ Err r → why ≡ r
     same {r} b = cc
 
     not_sound : (h : Held) → Sound f file h → ⊥
     not_sound h s = never (sound-form s)
       where
-        never : {t : Shape} → form_in k file ≡ SoundForm t → ⊥
+        never : {t : Shape} → form_in k file ≡ Ok t → ⊥
         never b = unlike cc
 
-    broken-at : (i : ℕ) → form_in k file ≡ BrokenForm (Malformed i) → length file ≤ longest f → ((j : ℕ) → j < i → GoodField f file j) → (GoodField f file i → ⊥)
+    broken-at : (i : ℕ) → form_in k file ≡ Err (Malformed i) → length file ≤ longest f → ((j : ℕ) → j < i → GoodField f file j) → (GoodField f file i → ⊥)
         → BrokenAt why
     broken-at i b short good bad = record { index = i; refusal = same b; says = files.at_field short not_sound (first-of i good bad) }
 

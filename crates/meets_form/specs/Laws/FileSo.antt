@@ -1,15 +1,14 @@
 -- Which of the two a file is, broken or sound, in the definitions and in the sentences at once: a broken one breaks at one field in both, and what the
 -- definitions read of a sound one is the layout that the sentences say.
-use Rattle.std.specs.Prelude.{◌≡◌, refl, Bool, false, List, ℕ, eqb, length, get_or}
+use Rattle.std.specs.Prelude.{◌≡◌, refl, Bool, false, List, ℕ, eqb, length, get_or, Err, Ok, Result}
 use Rattle.std.proofs.Math.Path.{ap}
 use Rattle.std.proofs.Common.{◌∙◌, arith}
 use Rattle.std.proofs.Math.Decide.{dec_le}
 use borrow.Author.Tests.{eqb-true, eqb-false}
+use Rattle.prelude.specs.declared.Refusal.{Refusal}
 use Rattle.prelude.specs.Laws.Bools.{either}
 use Rattle.prelude.specs.Pick.{pick}
 use Rattle.prelude.specs.declared.Refusal.TheVariants.{Malformed}
-use Rattle.form_fields.specs.declared.Form as declared
-use Rattle.form_fields.specs.declared.Form.TheVariants.{Sound as SoundForm, Broken as BrokenForm}
 use Rattle.form_fields.specs.declared.Kind.{Kind}
 use Rattle.form_fields.specs.declared.Shape.{Shape}
 use Rattle.form_fields.specs.Banks.{table_of}
@@ -37,8 +36,8 @@ module _ (file : List ℕ) (small : Bytes file) (fill : ℕ) where
   whole s = input (table_of file) (lists_in file) (choices_of s fill)
 
   pub data FileSo : Type 0 where
-    broken : {f : Form} {i : ℕ} → OfForm file f → Broken f file i → form_of file ≡ BrokenForm (Malformed i) → FileSo
-    sound : {f : Form} {s : Shape} → OfForm file f → Sound f file (held (contents_in (kind f) file)) → form_of file ≡ SoundForm s → s ≡ shape_in (kind f) file
+    broken : {f : Form} {i : ℕ} → OfForm file f → Broken f file i → form_of file ≡ Err (Malformed i) → FileSo
+    sound : {f : Form} {s : Shape} → OfForm file f → Sound f file (held (contents_in (kind f) file)) → form_of file ≡ Ok s → s ≡ shape_in (kind f) file
         → whole s ≡ input_of f file fill → FileSo
 
   -- by the form that the file begins as
@@ -46,16 +45,16 @@ module _ (file : List ℕ) (small : Bytes file) (fill : ℕ) where
     form-same : form_of file ≡ form_in (kind f) file
     form-same = ap (λ (q : Kind). form_in q file) same
 
-    by_form : (g : declared.Form) → form_in (kind f) file ≡ g → FileSo
-    by_form (BrokenForm why) e =
+    by_form : (g : Result Shape Refusal) → form_in (kind f) file ≡ g → FileSo
+    by_form (Err why) e =
         let b = form-broken f file why e in
-        broken of b.says (form-same ∙ e ∙ ap BrokenForm b.refusal)
-    by_form (SoundForm s) e =
+        broken of b.says (form-same ∙ e ∙ ap Err b.refusal)
+    by_form (Ok s) e =
         let x = form-sound f file small s e in
-        let formed : form_of file ≡ SoundForm s = form-same ∙ e in
+        let formed : form_of file ≡ Ok s = form-same ∙ e in
         let shape : s ≡ shape_in (kind f) file = (sound-file (kind f) file s e).shape in
         let whole_is : whole s ≡ input_of f file fill =
-        ap (λ (g : declared.Form). input (table_of file)
+        ap (λ (g : Result Shape Refusal). input (table_of file)
         (lists (kinds_of file) (operands_of file) (numbers_of file) (states_of file) (row_count file) (values_by file g)) (choices_of s fill)) formed
         ∙ ap (λ (q : Kind). input_in f file fill q s) same ∙ ap (input_in f file fill (kind f)) shape ∙ input-is f file fill x in
         sound of x formed shape whole_is
@@ -66,7 +65,7 @@ module _ (file : List ℕ) (small : Bytes file) (fill : ℕ) where
       either (field_at file 16 1 0) (λ t. absurd (other (field-tag file 16 1 0 t))) (λ t. rw t)
 
   -- a file that begins with 16 but not with form 2's head
-  headless : begins2 file ≡ false → form_in form2 file ≡ BrokenForm (Malformed 0)
+  headless : begins2 file ≡ false → form_in form2 file ≡ Err (Malformed 0)
   headless e =
       elim (dec_le (length file) 65536) [
         | yes short ↦ form-head form2 file short e
@@ -84,7 +83,7 @@ module _ (file : List ℕ) (small : Bytes file) (fill : ℕ) where
       (λ h.
       let b = form-broken form-2 file (Malformed 0) (headless h) in
       broken (says.of-2 first) b.says
-      (ap (λ (c : Bool). form_in (pick c form2 form1) file) h ∙ old-reader-refuses file first ∙ ap BrokenForm b.refusal)))
+      (ap (λ (c : Bool). form_in (pick c form2 form1) file) h ∙ old-reader-refuses file first ∙ ap Err b.refusal)))
       (λ t.
       let other = eqb-false (get_or file 0 0) 16 t in
       by_form form-1 (says.of-1 other) (ap (λ (b : Bool). pick b form2 form1) (not-headed other)) (form_in form1 file) refl)

@@ -1,6 +1,6 @@
 -- The layout of a sound file: what the definitions read of it is what the sentences say of it, number by number, and the build of the file is the build
 -- of that layout.
-use Rattle.std.specs.Prelude.{◌≡◌, Bool, List, [], ◌++◌, ℕ, ◌+◌, ◌*◌, ◌-◌, ◌≤◌, ◌<◌, min, pos, get_or, drop, replicate}
+use Rattle.std.specs.Prelude.{◌≡◌, Bool, List, [], ◌++◌, ℕ, ◌+◌, ◌*◌, ◌-◌, ◌≤◌, ◌<◌, min, pos, get_or, drop, replicate, Ok}
 use Rattle.std.proofs.Math.Path.{refl, ap, ap₂}
 use Rattle.std.proofs.Common.{sym, subst, ◌∙◌, arith, get_or-take, get_or-drop, eq-eqb, le-leb}
 use Rattle.std.proofs.Math.Dec.{eqb, leb}
@@ -12,7 +12,6 @@ use Rattle.prelude.specs.Pick.{pick}
 use Rattle.bankdef.specs.Check.{no_bank}
 use Rattle.bankdef.specs.declared.Bankdef.{Bankdef}
 use Rattle.bankdef.specs.declared.Bankdefs.{Bankdefs}
-use Rattle.form_fields.specs.declared.Form.TheVariants.{Sound as SoundForm}
 use Rattle.form_fields.specs.declared.Kind.{Kind}
 use Rattle.form_fields.specs.declared.Shape.{Shape}
 use Rattle.form_fields.specs.Banks as file-banks
@@ -291,7 +290,7 @@ module _ (f : Form) (file : List ℕ) (fill : ℕ) where
   abbrev pub input_in : Kind → Shape → Input
   input_in q s =
       input (table_in q)
-      (lists (kinds_in q file) (operands_in q file) (numbers_in q file) (states_in q file) (row_count_in q file) (values_by file (SoundForm s))) (choices_of s fill)
+      (lists (kinds_in q file) (operands_in q file) (numbers_in q file) (states_in q file) (row_count_in q file) (values_by file (Ok s))) (choices_of s fill)
 
   -- and what `dk_build` takes
   abbrev pub input_of : Input

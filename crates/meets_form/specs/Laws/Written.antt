@@ -1,8 +1,7 @@
 -- A sound file, in the sentences and in the definitions: the same bytes of the same contents.
-use Rattle.std.specs.Prelude.{◌≡◌, refl, List, [], ◌∷◌, ◌++◌, ℕ, zero, suc, ◌+◌, ◌*◌, ◌<◌, leb, length, get_or}
+use Rattle.std.specs.Prelude.{◌≡◌, refl, List, [], ◌∷◌, ◌++◌, ℕ, zero, suc, ◌+◌, ◌*◌, ◌<◌, leb, length, get_or, Ok}
 use Rattle.std.proofs.Common.{sym, ap, ◌∙◌, arith, leb-true, le-leb}
 use Rattle.prelude.specs.Laws.Bools.{both}
-use Rattle.form_fields.specs.declared.Form.TheVariants.{Sound as SoundForm}
 use Rattle.form_fields.specs.declared.Kind.{Kind}
 use Rattle.form_fields.specs.declared.Shape.{Shape}
 use Rattle.form_fields.specs.Kind.{Known, is1, is2, form1, form2}
@@ -98,7 +97,7 @@ pub sound-written : {f : Form} {file : List ℕ} {h : Held} → Sound f file h �
 sound-written {f} {file} {h} s = s.is ∙ sym (bytes_same f h)
 
 -- What the sentences call sound the definitions do,
-pub sound-form : {f : Form} {file : List ℕ} {h : Held} → Sound f file h → form_in (kind f) file ≡ SoundForm (shape_for (kind f) (contents h))
+pub sound-form : {f : Form} {file : List ℕ} {h : Held} → Sound f file h → form_in (kind f) file ≡ Ok (shape_for (kind f) (contents h))
 sound-form {f} {file} {h} s =
     let e = sound-written s in
     ap (form_in (kind f)) e
@@ -114,7 +113,7 @@ pub sound-one : {f : Form} {file : List ℕ} {h k : Held} → Sound f file h →
 sound-one s t = ap held (sym (sound-contents s) ∙ sound-contents t)
 
 -- and what they call sound the sentences do.
-pub form-sound : (f : Form) (file : List ℕ) → Bytes file → (s : Shape) → form_in (kind f) file ≡ SoundForm s → Sound f file (held (contents_in (kind f) file))
+pub form-sound : (f : Form) (file : List ℕ) → Bytes file → (s : Shape) → form_in (kind f) file ≡ Ok s → Sound f file (held (contents_in (kind f) file))
 form-sound f file small s e =
     let c = contents_in (kind f) file in
     let fits = contents-fit file small (known f) s e in

@@ -1,9 +1,7 @@
 -- Every outcome of `dk_form` meets its sentences: a broken file is 4 with its field's index, no pass run and nothing lent changed; of a sound one the
 -- contract is that of `dk_build` on exactly the layout that the bytes say, which meets its own (`build-meets`).
-use Rattle.std.specs.Prelude.{◌≡◌, refl, List, ℕ}
+use Rattle.std.specs.Prelude.{◌≡◌, refl, List, ℕ, None, Ok}
 use Rattle.std.proofs.Common.{ap, ◌∙◌}
-use Rattle.prelude.specs.declared.Opt.TheVariants.{None}
-use Rattle.form_fields.specs.declared.Form.TheVariants.{Sound as SoundForm}
 use Rattle.form_fields.specs.declared.Shape.{Shape}
 use Rattle.form_fields.specs.Shape.{form_of}
 use Rattle.form_fields.specs.Whole.{Bytes}
@@ -27,7 +25,7 @@ said file fill old y (file-says.laid o s l t) = laid o s l t
 
 module _ (file : List ℕ) (small : Bytes file) (fill : ℕ) (old : Lent) (r : DkLayout) (new : Lent)
     (told : FormTold file fill None (lent_of old) r (lent_of new)) where
-  pub as-tables : (s : Shape) → form_of file ≡ SoundForm s → TablesTold (whole file small fill None old r new told s) (lent_of old) r (lent_of new)
+  pub as-tables : (s : Shape) → form_of file ≡ Ok s → TablesTold (whole file small fill None old r new told s) (lent_of old) r (lent_of new)
   as-tables s sound =
       record {
         answer = told.answer ∙ ap layout_told (built-so file small fill None old r new told s sound);

@@ -1,8 +1,7 @@
 -- Meets and decides together: what `dk_form_paged` says of a file of bytes is so of one outcome, whatever is lent. So what follows from its contract follows
 -- from its sentences.
-use Rattle.std.specs.Prelude.{◌≡◌, refl, List, ◌↔◌, ℕ}
+use Rattle.std.specs.Prelude.{◌≡◌, refl, List, ◌↔◌, ℕ, Some}
 use Rattle.std.proofs.Common.{sym, subst}
-use Rattle.prelude.specs.declared.Opt.TheVariants.{Some}
 use Rattle.form_fields.specs.Banks.{table_of}
 use Rattle.form_fields.specs.Whole.{Bytes}
 use Rattle.form_build.specs.Filed.{lists_in, file_output, file_visits}

@@ -1,9 +1,7 @@
 -- Every outcome of `dk_form_paged` meets its sentences: a broken file is 4 with its field's index, no pass run and nothing lent changed; of a sound one the
 -- contract is that of `dk_build_paged` on exactly the layout that the bytes say, which meets its own (`paged-meets`).
-use Rattle.std.specs.Prelude.{◌≡◌, refl, List, ℕ}
+use Rattle.std.specs.Prelude.{◌≡◌, refl, List, ℕ, Some, Ok}
 use Rattle.std.proofs.Common.{ap, ◌∙◌}
-use Rattle.prelude.specs.declared.Opt.TheVariants.{Some}
-use Rattle.form_fields.specs.declared.Form.TheVariants.{Sound as SoundForm}
 use Rattle.form_fields.specs.declared.Shape.{Shape}
 use Rattle.form_fields.specs.Shape.{form_of}
 use Rattle.form_fields.specs.Whole.{Bytes}
@@ -29,7 +27,7 @@ said file fill page old y (file-says.laid o s l t) = laid o s l t
 
 module _ (file : List ℕ) (small : Bytes file) (fill page : ℕ) (old : Lent) (r : DkLayout) (new : Lent)
     (told : FormTold file fill (Some page) (lent_of old) r (lent_of new)) where
-  pub as-paged : (s : Shape) → form_of file ≡ SoundForm s
+  pub as-paged : (s : Shape) → form_of file ≡ Ok s
       → PagedTold page (whole file small fill (Some page) old r new told s) (lent_of old) r (lent_of new)
   as-paged s sound =
       record {

@@ -1,5 +1,5 @@
 -- How far a layout goes that has passed its checks, by what its passes come to and by what the build comes to at its nodes: in the map and in the sentences.
-use Rattle.std.specs.Prelude.{◌≡◌, refl, List, ◌⊎◌}
+use Rattle.std.specs.Prelude.{◌≡◌, refl, List, ◌⊎◌, Err, Some, Ok}
 use Rattle.std.proofs.Common.{sym, subst, ◌∙◌, inl, inr, ⊎_elim, add-one, arith, le-ltb}
 use Rattle.std.proofs.Math.Path.{ap}
 use Prim.Native.Nat.{ℕ, suc, ◌+◌, ◌-◌, ◌≤◌, min}
@@ -7,8 +7,7 @@ use Rattle.prelude.specs.Refusals.{number_of, place_of}
 use Rattle.prelude.specs.declared.Place.TheVariants.{One}
 use Rattle.prelude.specs.declared.Refusal.{Refusal}
 use Rattle.prelude.specs.declared.Refusal.TheVariants.{Unresolved as EndedUnresolved}
-use Rattle.prelude.specs.declared.Verdict.{Verdict}
-use Rattle.prelude.specs.declared.Verdict.TheVariants.{Refused}
+use Rattle.prelude.specs.Verdict.{Verdict}
 use Rattle.iter.specs.declared.Lost.{Lost}
 use Rattle.overlap_checker.specs.State.{State}
 use Rattle.overlap_checker.specs.Folds.{state_after}
@@ -16,7 +15,6 @@ use Rattle.resolver.specs.Layout.{Checked}
 use Rattle.resolver.specs.Passes.{resolution_of}
 use Rattle.resolver.proofs.RefusedExactly.{checked-passes}
 use Rattle.resolver.specs.declared.Resolution.{Resolution}
-use Rattle.resolver.specs.declared.Settled.TheVariants.{At, Refused as Unsettled}
 use Rattle.build_plan.specs.Placing.{Placed, holds, stops, placed_if, placed_all, offer_of}
 use Rattle.build_plan.specs.Laws.PlacingLaws.{stops-holds}
 use Rattle.output.specs.Calls.{Call, closed_in, visits_in, visit_in, program_in, row_in}
@@ -28,7 +26,6 @@ use Rattle.output.specs.declared.Output.{Output}
 use Rattle.build_map.specs.Map.{reach_of, settled_reach, traced, met_reach, whole_reach}
 use Rattle.build_map.specs.Laws.TracedLaws.{traced-stopped, traced-whole}
 use Rattle.build_map.specs.Theorems.Reached.{checked-ran}
-use Rattle.build_map.specs.declared.Fault.TheVariants.{At as AtFault}
 use Rattle.build_map.specs.declared.Reach.{Reach}
 use Rattle.build_paged.specs.InProfile.{leaves}
 use Rattle.c_answers.specs.Told.{first_of, second_of, layout_told}
@@ -61,7 +58,7 @@ use Rattle.meets_map.specs.Laws.Shown.{lent_of, outcome, row_now, shows-of}
 
 -- a layout that is refused for 5 or more is told so
 told-stopped : (why : Refusal) (node : ℕ) → 5 ≤ number_of why → (n count : ℕ) (lost : List Lost)
-    → ToldBy (Refused why) node n count lost
+    → ToldBy (Err why) node n count lost
     ≡ record {
       refusal = 0;
       stopped = number_of why;
@@ -97,7 +94,7 @@ module _ (g : Given) (typed : Typed g) (old : Lent) (places : Places old) (r : D
 
   -- ---- what the passes are refused for
 
-  module _ (why : Refusal) (settled : settled_of b ≡ Unsettled why) where
+  module _ (why : Refusal) (settled : settled_of b ≡ Err why) where
     reach-met : reach_of b ≡ met_reach (nodes g) why
     reach-met = ap (settled_reach (closed_of b) (visits_of b n) (nodes g)) settled
 
@@ -106,13 +103,13 @@ module _ (g : Given) (typed : Typed g) (old : Lent) (places : Places old) (r : D
     stop-shows i place (inl five) = (
       i,
       subst (λ (x : ℕ). UpTo g i x i) (sym five) m.before,
-      shows-of g typed old r new told places is ck (record { verdict = Refused why; nodes = i; fault = AtFault i }) (reach-met ∙ rw (five, place))
+      shows-of g typed old r new told places is ck (record { verdict = Err why; nodes = i; fault = Some i }) (reach-met ∙ rw (five, place))
           (number_of why) i 0 i (λ p c l. told-stopped why i (omega arith) p c l ∙ rw place),
     )
     stop-shows i place (inr seven) = (
       suc i,
       subst (λ (x : ℕ). UpTo g i x (suc i)) (sym seven) m.with_it,
-      shows-of g typed old r new told places is ck (record { verdict = Refused why; nodes = suc i; fault = AtFault i }) (reach-met ∙ rw (seven, place))
+      shows-of g typed old r new told places is ck (record { verdict = Err why; nodes = suc i; fault = Some i }) (reach-met ∙ rw (seven, place))
           (number_of why) i 0 i (λ p c l. told-stopped why i (omega arith) p c l ∙ rw place),
     )
 
@@ -131,15 +128,15 @@ module _ (g : Given) (typed : Typed g) (old : Lent) (places : Places old) (r : D
     pub refused-mapped : Mapped g old (outcome g typed old r new told)
     refused-mapped =
         halted
-        (subst (λ (x : Resolution). (why : Refusal) → x.settled ≡ Unsettled why → Halts g (table g) is ck why x.passes) same
+        (subst (λ (x : Resolution). (why : Refusal) → x.settled ≡ Err why → Halts g (table g) is ck why x.passes) same
         (passes-meet g (table g) is ck nothing).0 why settled)
 
   -- ---- what the build comes to at its nodes
 
-  module _ (k : ℕ) (settled : settled_of b ≡ At k) where
+  module _ (k : ℕ) (settled : settled_of b ≡ Ok k) where
     settles : SettledSo g (table g) is ck nothing k n
     settles =
-        subst (λ (x : Resolution). (k : ℕ) → x.settled ≡ At k → SettledSo g (table g) is ck nothing k x.passes) same
+        subst (λ (x : Resolution). (k : ℕ) → x.settled ≡ Ok k → SettledSo g (table g) is ck nothing k x.passes) same
         (passes-meet g (table g) is ck nothing).1 k settled
 
     -- the build of the layout, lent nothing
@@ -172,7 +169,7 @@ module _ (g : Given) (typed : Typed g) (old : Lent) (places : Places old) (r : D
         (shows-of g typed old r new told places is ck (whole_reach (nodes g)) (reach-traced ∙ traced-whole (program_in c) (row_in c) (closed_in c) s e) 0 0 0
         m.no_node (λ p c l. refl))
 
-    stops_at : (why : Refusal) (f : FirstRefused c why) → reach_of b ≡ record { verdict = Refused why; nodes = suc f.n; fault = AtFault f.n }
+    stops_at : (why : Refusal) (f : FirstRefused c why) → reach_of b ≡ record { verdict = Err why; nodes = suc f.n; fault = Some f.n }
     stops_at why f =
         reach-traced
         ∙ traced-stopped (program_in c) (row_in c) (closed_in c) f.n f.stored why f.listed f.before
@@ -180,8 +177,8 @@ module _ (g : Given) (typed : Typed g) (old : Lent) (places : Places old) (r : D
         ∙ at f.n (add-one f.n) (let back : f.n + 1 - 1 ≡ f.n = omega arith in back)
       where
         at : (i : ℕ) {x y : ℕ} → x ≡ suc i → y ≡ i
-            → ◌≡◌ {A = Reach} (record { verdict = Refused why; nodes = x; fault = AtFault y })
-            (record { verdict = Refused why; nodes = suc i; fault = AtFault i })
+            → ◌≡◌ {A = Reach} (record { verdict = Err why; nodes = x; fault = Some y })
+            (record { verdict = Err why; nodes = suc i; fault = Some i })
         at i e f = rw (e, f)
 
     placed-stops : (why : Refusal) → FirstRefused c why → Tried g old n row (outcome g typed old r new told)
@@ -190,7 +187,7 @@ module _ (g : Given) (typed : Typed g) (old : Lent) (places : Places old) (r : D
         let x = refused-first g typed is ck lent built (leaves b lent built) contract.built all k settled why f in
         let high = (nine-to-13 g x.why).0 in
         m.refused x
-        (shows-of g typed old r new told places is ck (record { verdict = Refused why; nodes = suc f.n; fault = AtFault f.n }) (stops_at why f)
+        (shows-of g typed old r new told places is ck (record { verdict = Err why; nodes = suc f.n; fault = Some f.n }) (stops_at why f)
         (number_of why) (first_of (place_of why)) (second_of (place_of why)) f.n (told-stopped why f.n (omega arith)))
 
     tries : (q : Placed) → placed_all (closed_in c) (visits_in c) ≡ q → Tried g old n row (outcome g typed old r new told)

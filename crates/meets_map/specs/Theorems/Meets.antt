@@ -1,10 +1,9 @@
 -- Every outcome of `dk_map` meets its sentences: whatever it is given, and whatever stands in the four lists of 4,096 that are lent to it.
-use Rattle.std.specs.Prelude.{◌≡◌, refl, List, ℕ, ◌-◌, ◌≤◌, replicate}
+use Rattle.std.specs.Prelude.{◌≡◌, refl, List, ℕ, ◌-◌, ◌≤◌, replicate, Err, None, Result, Ok}
 use Rattle.std.proofs.Common.{sym, ap, subst, ◌∙◌, arith, lt-ltb}
 use Rattle.prelude.specs.Refusals.{number_of, place_of}
 use Rattle.prelude.specs.declared.Refusal.{Refusal}
-use Rattle.prelude.specs.declared.Verdict.{Verdict}
-use Rattle.prelude.specs.declared.Verdict.TheVariants.{Accepted, Refused}
+use Rattle.prelude.specs.Verdict.{Accepted, Verdict}
 use Rattle.bankdef.specs.Check.{check_of}
 use Rattle.bankdef.specs.Theorems.Refused.{decided}
 use Rattle.bitvec.specs.Lists.{list_of}
@@ -17,14 +16,11 @@ use Rattle.resolver.specs.Once.{Program}
 use Rattle.resolver.specs.Padding.{sum_in}
 use Rattle.resolver.proofs.RefusedExactly.{table-first, lists-next}
 use Rattle.resolver.specs.declared.Resolution.{Resolution}
-use Rattle.resolver.specs.declared.Settled.{Settled}
-use Rattle.resolver.specs.declared.Settled.TheVariants.{At, Refused as Unsettled}
 use Rattle.output.specs.Output.{Input, input, passes_of, settled_of}
 use Rattle.build_map.specs.Map as map
 use Rattle.build_map.specs.Map.{reach_of, paddings_to, left_by}
 use Rattle.build_map.specs.Steps.{verdict_of}
 use Rattle.build_map.specs.Theorems.Reached.{none-run}
-use Rattle.build_map.specs.declared.Fault.TheVariants.{None}
 use Rattle.build_map.specs.declared.Reach.{Reach}
 use Rattle.c_answers.specs.Told.{first_of, second_of}
 use Rattle.c_tables.specs.Tables.{given, table_of, choices_by}
@@ -75,14 +71,14 @@ module _ (g : Given) (typed : Typed g) (old : Lent) (places : Places old) (r : D
   -- ---- 1 to 4
 
   module _ (why : Refusal) (few : number_of why ≤ 4)
-      (refused : layout_of (table g) (listed g) (choices_by g.limit g.fill g.closed) ≡ record { settled = Unsettled why; passes = 0 }) where
+      (refused : layout_of (table g) (listed g) (choices_by g.limit g.fill g.closed) ≡ record { settled = Err why; passes = 0 }) where
     none : passes_of b ≡ 0
     none = ap (λ (x : Resolution). x.passes) refused
 
-    reach-none : reach_of b ≡ record { verdict = Refused why; nodes = 0; fault = None }
+    reach-none : reach_of b ≡ record { verdict = Err why; nodes = 0; fault = None }
     reach-none =
         none-run b none
-        ∙ ap (λ (s : Settled). record { verdict = verdict_of s; nodes = 0; fault = None }) (ap (λ (x : Resolution). x.settled) refused)
+        ∙ ap (λ (s : Result ℕ Refusal). record { verdict = verdict_of s; nodes = 0; fault = None }) (ap (λ (x : Resolution). x.settled) refused)
 
     abbrev p : Program
     p = walked g (table g)
@@ -91,7 +87,7 @@ module _ (g : Given) (typed : Typed g) (old : Lent) (places : Places old) (r : D
     row = row_no g (table g) (row_now g typed old r new told)
 
     told-refused : (n : ℕ) (sums : List Lost) → n ≡ 0 → sums ≡ replicate 16 no_lost
-        → ToldBy (Refused why) (node_told None) n 0 sums ≡ (refusal g old (number_of why) (first_of (place_of why)) (second_of (place_of why))).answer
+        → ToldBy (Err why) (node_told None) n 0 sums ≡ (refusal g old (number_of why) (first_of (place_of why)) (second_of (place_of why))).answer
     told-refused n sums e f = rw (e, f, lt-ltb (number_of why) 5 (omega arith))
 
     answer-none : r ≡ (refusal g old (number_of why) (first_of (place_of why)) (second_of (place_of why))).answer
@@ -122,20 +118,20 @@ module _ (g : Given) (typed : Typed g) (old : Lent) (places : Places old) (r : D
   passed-checks : Checked (table g) (listed g) g.fill → MapSays g old (outcome g typed old r new told)
   passed-checks c = through g (refusal g old) (clear g typed c) (by (settled_of b) refl)
     where
-      by : (s : Settled) → settled_of b ≡ s → Mapped g old (outcome g typed old r new told)
-      by (Unsettled why) e = refused-mapped g typed old places r new told (shown g typed c.table) c why e
-      by (At k) e = settled-mapped g typed old places r new told (shown g typed c.table) c k e
+      by : (s : Result ℕ Refusal) → settled_of b ≡ s → Mapped g old (outcome g typed old r new told)
+      by (Err why) e = refused-mapped g typed old places r new told (shown g typed c.table) c why e
+      by (Ok k) e = settled-mapped g typed old places r new told (shown g typed c.table) c k e
 
   listed_next : check_of (table g) ≡ Accepted → (v : Verdict) → lists_of (table g).len (listed g) g.fill ≡ v
       → MapSays g old (outcome g typed old r new told)
   listed_next t Accepted e = passed-checks (record { table = t; lists = e })
-  listed_next t (Refused why) e =
+  listed_next t (Err why) e =
       says-refused why ((lists-four (table g).len (listed g) g.fill).four why e)
       (lists-next (table g) (listed g) (choices_by g.limit g.fill g.closed) why t e)
 
   table-next : (v : Verdict) → check_of (table g) ≡ v → MapSays g old (outcome g typed old r new told)
   table-next Accepted e = listed_next e (lists_of (table g).len (listed g) g.fill) refl
-  table-next (Refused why) e =
+  table-next (Err why) e =
       says-refused why (let few = table-number (table g) (check_of (table g)) (decided (table g)) why e in omega arith)
       (table-first (table g) (listed g) (choices_by g.limit g.fill g.closed) why e)
 

@@ -1,10 +1,9 @@
 -- The map is refused only for 1 to 4, and stops only from 5 on; where no pass ran it shows nothing and changes nothing.
-use Rattle.std.specs.Prelude.{◌≡◌, refl, Bool, true, false, List, ◌⊎◌, ℕ, ◌≤◌, ◌<◌, ltb}
+use Rattle.std.specs.Prelude.{◌≡◌, refl, Bool, true, false, List, ◌⊎◌, ℕ, ◌≤◌, ◌<◌, ltb, Err}
 use Rattle.std.proofs.Common.{sym, ap, ◌∙◌, inl, inr, arith, ltb-true, ltb-false}
 use Rattle.prelude.specs.Pick.{pick}
 use Rattle.prelude.specs.Refusals.{number_of}
-use Rattle.prelude.specs.declared.Verdict.{Verdict}
-use Rattle.prelude.specs.declared.Verdict.TheVariants.{Accepted, Refused}
+use Rattle.prelude.specs.Verdict.{Verdict, Accepted}
 use Rattle.iter.specs.declared.Lost.{Lost}
 use Rattle.output.specs.Output.{Input}
 use Rattle.build_map.specs.Map.{Lent, map_of}
@@ -25,15 +24,15 @@ from n false e = inr (ltb-false n 5 e)
 module _ (node passes nodes : ℕ) (padding : List Lost) where
   told_below : (v : Verdict) → (ToldBy v node passes nodes padding).refusal < 5
   told_below Accepted = omega arith
-  told_below (Refused why) = below (number_of why) (ltb (number_of why) 5) refl
+  told_below (Err why) = below (number_of why) (ltb (number_of why) 5) refl
 
   told-from : (v : Verdict) → ((ToldBy v node passes nodes padding).stopped ≡ 0) ⊎ (5 ≤ (ToldBy v node passes nodes padding).stopped)
   told-from Accepted = inl refl
-  told-from (Refused why) = from (number_of why) (ltb (number_of why) 5) refl
+  told-from (Err why) = from (number_of why) (ltb (number_of why) 5) refl
 
   told-passes : (v : Verdict) → (ToldBy v node passes nodes padding).passes ≡ passes
   told-passes Accepted = refl
-  told-passes (Refused why) = refl
+  told-passes (Err why) = refl
 
 module _ (b : Input) (old new : Lent) (r : DkMap) (c : MapTold b old r new) where
   pub map-refused-below-5 : r.refusal < 5

@@ -1,10 +1,9 @@
 -- Meets and decides together: the outcome of a call of `dk_map` is the one outcome that the sentences leave, for everything that it can be given and lent.
-use Rattle.std.specs.Prelude.{◌≡◌, refl, ◌↔◌, ℕ, length}
+use Rattle.std.specs.Prelude.{◌≡◌, refl, ◌↔◌, ℕ, length, Result, Err, Ok}
 use Rattle.std.proofs.Common.{sym, subst}
 use Rattle.prelude.specs.Told.{told_verdict}
+use Rattle.prelude.specs.declared.Refusal.{Refusal}
 use Rattle.resolver.specs.Passes.{row_of_pass}
-use Rattle.resolver.specs.declared.Settled.{Settled}
-use Rattle.resolver.specs.declared.Settled.TheVariants.{At, Refused as Unsettled}
 use Rattle.build_plan.specs.Placing.{Placed, holds, stops, placed_all, walked_all}
 use Rattle.output.specs.Output.{Input, closed_of, visits_of, passes_of, settled_of}
 use Rattle.build_map.specs.Map.{traced_by, settled_reach, map_of, left_by, placed_told, settled_told}
@@ -27,10 +26,10 @@ placed-told : (walked : ℕ) (q : Placed) → told_verdict (traced_by walked q).
 placed-told n (holds s) = refl
 placed-told n (stops why) = refl
 
-settled-told : (b : Input) (s : Settled)
+settled-told : (b : Input) (s : Result ℕ Refusal)
     → told_verdict (settled_reach (closed_of b) (visits_of b (passes_of b)) (length b.lists.kinds) s).verdict ≡ settled_told b s
-settled-told b (Unsettled why) = refl
-settled-told b (At k) =
+settled-told b (Err why) = refl
+settled-told b (Ok k) =
     placed-told (walked_all (closed_of b) (visits_of b (passes_of b))) (placed_all (closed_of b) (visits_of b (passes_of b)))
 
 module _ (g : Given) (typed : Typed g) (old : Lent) (places : Places old) where

@@ -1,6 +1,6 @@
 -- The cells of a node, the line of the node at fault and that of the verdict: what the map shows of a layout, by the definitions, is what the sentences
 -- print of its outcome. A node that is shown stands in a bank of the table, so that its address is told; a node at fault is one of the list's.
-use Rattle.std.specs.Prelude.{◌≡◌, refl, Bool, true, false, List, [], ◌∷◌, map, eqb, ltb, ℤ, pos, ◌+ℤ◌, length}
+use Rattle.std.specs.Prelude.{◌≡◌, refl, Bool, true, false, List, [], ◌∷◌, map, eqb, ltb, ℤ, pos, ◌+ℤ◌, length, None, Some, Result, Err, Ok, Option}
 use Rattle.std.proofs.Common.{sym, ap, subst, ◌∙◌, arith, eqb-true}
 use Prim.Native.Nat.{ℕ, ◌-◌, ◌/◌, ◌≤◌, ◌<◌, min}
 use Rattle.std.proofs.lemmas.Bool.{eqb-false}
@@ -10,8 +10,7 @@ use Rattle.prelude.specs.Theorems.Told.{number-some}
 use Rattle.prelude.specs.declared.Place.{Place}
 use Rattle.prelude.specs.declared.Place.TheVariants.{One, Two}
 use Rattle.prelude.specs.declared.Refusal.{Refusal}
-use Rattle.prelude.specs.declared.Verdict.{Verdict}
-use Rattle.prelude.specs.declared.Verdict.TheVariants.{Accepted, Refused}
+use Rattle.prelude.specs.Verdict.{Verdict, Accepted}
 use Rattle.bankdef.specs.declared.Bankdef.{Bankdef}
 use Rattle.blocks.specs.Offsets.{no_offset}
 use Rattle.iter.specs.Address.{address_of, units_from}
@@ -21,14 +20,10 @@ use Rattle.nodes.specs.Theorems.Sound.{accepted-lists}
 use Rattle.resolver.specs.Layout.{Checked}
 use Rattle.resolver.specs.Once.{Program, bank_record}
 use Rattle.resolver.specs.Passes.{row_of_pass}
-use Rattle.resolver.specs.declared.Settled.{Settled}
-use Rattle.resolver.specs.declared.Settled.TheVariants.{At, Refused as Unsettled}
 use Rattle.build_plan.specs.Placing.{Placed, holds, stops, placed_all, walked_all}
 use Rattle.output.specs.Output.{Input, closed_of, visits_of, passes_of, settled_of}
 use Rattle.build_map.specs.Map.{traced_by, node_of, nodes_met, fault_met, settled_reach, reach_of, map_of, bank_shown, position_shown}
 use Rattle.build_map.specs.Theorems.Reached.{ran-checked, none-run, shown-sees}
-use Rattle.build_map.specs.declared.Fault.{Fault}
-use Rattle.build_map.specs.declared.Fault.TheVariants.{None, At as AtNode}
 use Rattle.build_map.specs.declared.Reach.{Reach}
 use Rattle.c_answers.specs.Maps.{ToldBy, node_told}
 use Rattle.print_text.specs.Ascii.{ascii}
@@ -61,13 +56,13 @@ word-column w =
 
 -- ---- the node at fault is one of those that are shown, or the next
 
-none-at : {i : ℕ} → None ≡ AtNode i → ⊥
+none-at : {i : ℕ} → None ≡ Some i → ⊥
 none-at e = unlike cc
 
-at_same : {i j : ℕ} → AtNode j ≡ AtNode i → j ≡ i
+at_same : {i j : ℕ} → Some j ≡ Some i → j ≡ i
 at_same e = cc
 
-fault-met : (n : ℕ) (why : Refusal) (i : ℕ) → fault_met why ≡ AtNode i → i ≤ nodes_met n why
+fault-met : (n : ℕ) (why : Refusal) (i : ℕ) → fault_met why ≡ Some i → i ≤ nodes_met n why
 fault-met n why i e = by (eqb (number_of why) 5) refl (eqb (number_of why) 7) refl
   where
     by : (x : Bool) → eqb (number_of why) 5 ≡ x → (z : Bool) → eqb (number_of why) 7 ≡ z → i ≤ nodes_met n why
@@ -79,17 +74,17 @@ fault-met n why i e = by (eqb (number_of why) 5) refl (eqb (number_of why) 7) re
         rw (f, h) (omega (arith, s))
     by false f false h = absurd (none-at (sym (rw (f, h)) ∙ e))
 
-fault-traced : (walked : ℕ) (q : Placed) (i : ℕ) → (traced_by walked q).fault ≡ AtNode i → i ≤ (traced_by walked q).nodes
+fault-traced : (walked : ℕ) (q : Placed) (i : ℕ) → (traced_by walked q).fault ≡ Some i → i ≤ (traced_by walked q).nodes
 fault-traced walked (holds s) i e = absurd (none-at e)
 fault-traced walked (stops why) i e = let s : walked - 1 ≡ i = at_same e in omega (arith, s)
 
-fault-few : (b : Input) (i : ℕ) → (reach_of b).fault ≡ AtNode i → i ≤ (reach_of b).nodes
+fault-few : (b : Input) (i : ℕ) → (reach_of b).fault ≡ Some i → i ≤ (reach_of b).nodes
 fault-few b i = by (settled_of b)
   where
-    by : (s : Settled) → (settled_reach (closed_of b) (visits_of b (passes_of b)) (length b.lists.kinds) s).fault ≡ AtNode i
+    by : (s : Result ℕ Refusal) → (settled_reach (closed_of b) (visits_of b (passes_of b)) (length b.lists.kinds) s).fault ≡ Some i
         → i ≤ (settled_reach (closed_of b) (visits_of b (passes_of b)) (length b.lists.kinds) s).nodes
-    by (Unsettled why) e = fault-met (length b.lists.kinds) why i e
-    by (At k) e =
+    by (Err why) e = fault-met (length b.lists.kinds) why i e
+    by (Ok k) e =
         fault-traced (walked_all (closed_of b) (visits_of b (passes_of b))) (placed_all (closed_of b) (visits_of b (passes_of b))) i e
 
 -- ---- the refusal's line
@@ -106,7 +101,7 @@ refused-meets why = subst (Line (ascii "refused") _) (sym (refused-line why)) (l
 
 pub verdict-meets : (v : Verdict) (node passes count : ℕ) (lost : List Lost) → Ends (ToldBy v node passes count lost) (verdict_text v)
 verdict-meets Accepted node passes count lost = says.accepted refl refl
-verdict-meets (Refused why) node passes count lost =
+verdict-meets (Err why) node passes count lost =
     either (ltb (number_of why) 5)
     (λ t. says.refused (rw t (number-some why)) (rw t (numbers-meet why)) (refused-meets why))
     (λ t. says.stopped (rw t) (rw t (number-some why)) (rw t (numbers-meet why)) (refused-meets why))
@@ -122,7 +117,7 @@ module _ (g : Given) (typed : Typed g) (old : Lent) (places : Places old) where
   nodes-ran : (i : ℕ) → i < (reach_of b).nodes → passes_of b ≡ 0 → ⊥
   nodes-ran i h none = let e = ap (λ (x : Reach). x.nodes) (none-run b none) in omega (arith, h, e)
 
-  fault-ran : (i : ℕ) → (reach_of b).fault ≡ AtNode i → passes_of b ≡ 0 → ⊥
+  fault-ran : (i : ℕ) → (reach_of b).fault ≡ Some i → passes_of b ≡ 0 → ⊥
   fault-ran i f none = none-at (sym (ap (λ (x : Reach). x.fault) (none-run b none)) ∙ f)
 
   -- ---- a node
@@ -168,16 +163,16 @@ module _ (g : Given) (typed : Typed g) (old : Lent) (places : Places old) where
 
   -- ---- the node at fault
 
-  fault-listed : (i : ℕ) → (map_of b).fault ≡ AtNode i → i ≡ no_node → ⊥
+  fault-listed : (i : ℕ) → (map_of b).fault ≡ Some i → i ≡ no_node → ⊥
   unfolding map_of
   fault-listed i e same =
       let c = ran-checked b (fault-ran i e) in
       let few = (accepted-lists (table g).len (listed g) g.fill c.lists).few in
       omega (arith, fault-few b i e, (shown-sees b).few, few, same)
 
-  fault-by : (f : Fault) → ((i : ℕ) → f ≡ AtNode i → i ≡ no_node → ⊥) → FaultLine (node_told f) (fault_text f)
+  fault-by : (f : Option ℕ) → ((i : ℕ) → f ≡ Some i → i ≡ no_node → ⊥) → FaultLine (node_told f) (fault_text f)
   fault-by None h = says.no-fault refl
-  fault-by (AtNode i) h = says.at-fault (h i refl) (numbers-meet-line (ascii "fault") (i ∷ []))
+  fault-by (Some i) h = says.at-fault (h i refl) (numbers-meet-line (ascii "fault") (i ∷ []))
 
   pub fault-meets : FaultLine (node_told (map_of b).fault) (fault_text (map_of b).fault)
   fault-meets = fault-by (map_of b).fault fault-listed

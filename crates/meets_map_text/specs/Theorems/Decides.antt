@@ -1,10 +1,8 @@
 -- The sentences of what the map's program prints leave one text: the bytes leave one layout or one broken field, a layout one outcome (`map-decides`), and an
 -- outcome one text. From the sentences alone.
-use Rattle.std.specs.Prelude.{◌≡◌, refl, List, [], ◌∷◌, ◌++◌, ℕ, length, replicate}
+use Rattle.std.specs.Prelude.{◌≡◌, refl, List, [], ◌∷◌, ◌++◌, ℕ, length, replicate, Option, None, Some}
 use Rattle.std.proofs.Common.{sym, ap₂, subst, ◌∙◌, arith}
 use Rattle.std.proofs.lemmas.List.{length-replicate}
-use Rattle.prelude.specs.declared.Opt.{Opt}
-use Rattle.prelude.specs.declared.Opt.TheVariants.{None, Some}
 use Rattle.iter.specs.declared.Lost.{Lost}
 use Rattle.print_text.specs.Ascii.{ascii}
 use Rattle.c_answers.specs.declared.DkMap.{DkMap}
@@ -104,7 +102,7 @@ module _ (g : Given) where
 
   -- ---- what is said of the layout
 
-  pub laid-decides : (page : Opt) (old : Lent) → OneOnly (LaidSays g page old)
+  pub laid-decides : (page : Option ℕ) (old : Lent) → OneOnly (LaidSays g page old)
   laid-decides None old = map-decides g old
   laid-decides (Some page) old =
       checks-one g (refusal g old) _ (λ c. rules-one g page (refusal g old 19) (Mapped g old) (mapped-one g old))
@@ -119,7 +117,7 @@ some-lent n = (
   (length-replicate n 0, length-replicate n 0, length-replicate n 0, length-replicate n 0),
 )
 
-module _ (file : List ℕ) (fill : ℕ) (page : Opt) where
+module _ (file : List ℕ) (fill : ℕ) (page : Option ℕ) where
   -- of one layout
   same_layout : (f : Form) (g : Given) (t u : List ℕ)
       → ((old : Lent) → Lends old → (y : Outcome) × LaidSays g page old y × Prints g f y t)

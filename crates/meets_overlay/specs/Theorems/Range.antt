@@ -1,6 +1,6 @@
 -- `dk_overlay_range` and `overlay::pick`: by their contracts they say the sentences (`range-meets`, `bytes-meet`), which leave one outcome
 -- (`range-decides`, `bytes-decide`).
-use Rattle.std.specs.Prelude.{◌≡◌, Bool, true, false, List, ℕ, ◌+◌, ◌*◌, ◌/◌, ◌≤◌, ◌<◌, ltb, leb, length, take, drop}
+use Rattle.std.specs.Prelude.{◌≡◌, Bool, true, false, List, ℕ, ◌+◌, ◌*◌, ◌/◌, ◌≤◌, ◌<◌, ltb, leb, length, take, drop, Err, Ok}
 use Rattle.std.proofs.Math.Path.{refl}
 use Rattle.std.proofs.Common.{sym, ◌∙◌, arith, length-take, length-drop, ext_get_or, get_or-take, get_or-drop}
 use Rattle.std.proofs.Math.Bool.{not}
@@ -15,7 +15,7 @@ use Rattle.overlay.specs.Order.{in_order}
 use Rattle.overlay.specs.Range.{inside, source_of, bytes_of, Picks}
 use Rattle.overlay.specs.Laws.Range.{inside-true}
 use Rattle.overlay.specs.Trial.{Trial, trial}
-use Rattle.overlay.specs.declared.Source.TheVariants.{Overlay, Released, Refused}
+use Rattle.overlay.specs.declared.Source.TheVariants.{Overlay, Released}
 use Rattle.c_model.specs.Overlays.{RangeTold}
 use Rattle.c_answers.specs.Parts.{overlay_by}
 use Rattle.c_answers.specs.declared.DkOverlay.{DkOverlay}
@@ -130,7 +130,7 @@ module _ (overlay released os ss : List ℕ) (first count : ℕ) where
 
   answered : (o i a n : Bool) → in_order 0 os ss ≡ o → inside (length overlay) (length released) first count ≡ i → all_covered bit first count ≡ a
       → none_covered bit first count ≡ n → RangeSays overlay released os ss first count
-      (overlay_by first count (pick o (pick i (pick a Overlay (pick n Released (Refused PartlyCovered))) (Refused BadPart)) (Refused (Malformed 0))))
+      (overlay_by first count (pick o (pick i (pick a (Ok Overlay) (pick n (Ok Released) (Err PartlyCovered))) (Err BadPart)) (Err (Malformed 0))))
   answered false i a n e f g h = refused tt (bad-blocks overlay released os ss e)
   answered true false a n e f g h = passed (λ _. no-bad-blocks overlay released os ss e) (refused tt (bad-range f))
   answered true true true n e f g h = passed (λ _. no-bad-blocks overlay released os ss e) (passed (λ _. good-range f)
@@ -150,7 +150,7 @@ module _ (overlay released os ss : List ℕ) (first count : ℕ) where
 
   handed : (o i a n : Bool) → in_order 0 os ss ≡ o → inside (length overlay) (length released) first count ≡ i → all_covered bit first count ≡ a
       → none_covered bit first count ≡ n → BytesSay overlay released os ss first count
-      (bytes_of t first count (pick o (pick i (pick a Overlay (pick n Released (Refused PartlyCovered))) (Refused BadPart)) (Refused (Malformed 0))))
+      (bytes_of t first count (pick o (pick i (pick a (Ok Overlay) (pick n (Ok Released) (Err PartlyCovered))) (Err BadPart)) (Err (Malformed 0))))
   handed false i a n e f g h = refused tt (bad-blocks overlay released os ss e)
   handed true false a n e f g h = passed (λ _. no-bad-blocks overlay released os ss e) (refused tt (bad-range f))
   handed true true true n e f g h = passed (λ _. no-bad-blocks overlay released os ss e) (passed (λ _. good-range f) (passed

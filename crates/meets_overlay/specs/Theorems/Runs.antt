@@ -1,5 +1,5 @@
 -- `dk_overlay_runs`: by its contract it says the sentences (`runs-meet`), and they leave one outcome, the answer and both lists lent for it (`runs-decide`).
-use Rattle.std.specs.Prelude.{◌≡◌, refl, Bool, true, false, List, [], ◌∷◌, ℕ, zero, suc, ◌+◌, ◌≤◌, ◌<◌, leb, length, get_or}
+use Rattle.std.specs.Prelude.{◌≡◌, refl, Bool, true, false, List, [], ◌∷◌, ℕ, zero, suc, ◌+◌, ◌≤◌, ◌<◌, leb, length, get_or, Ok, Err}
 use Rattle.std.proofs.Common.{sym, subst, inl, inr, ⊎_elim, arith, leb-true, leb-false}
 use Rattle.std.proofs.lemmas.List.{length-map}
 use Rattle.prelude.specs.Pick.{pick}
@@ -12,7 +12,6 @@ use Rattle.overlay.specs.Runs.{runs_of}
 use Rattle.overlay.specs.RunFacts.{IsListed}
 use Rattle.overlay.specs.Theorems.RunFacts.{runs-hold-exactly, runs-maximal, runs-ascending}
 use Rattle.overlay.specs.Trial.{Trial, trial}
-use Rattle.overlay.specs.declared.Listed.TheVariants.{Runs as Counted, Refused}
 use Rattle.c_model.specs.Overlays.{RunsTold}
 use Rattle.c_answers.specs.Counts.{listed_count}
 use Rattle.c_answers.specs.declared.DkCount.{DkCount}
@@ -151,7 +150,7 @@ module _ (overlay released os ss : List ℕ) where
     many = (length-map (runs_of t) (λ r. r.origin), length-map (runs_of t) (λ r. r.size))
 
     answered : (o a b : Bool) → in_order 0 os ss ≡ o → leb n (length fs₀) ≡ a → leb n (length cs₀) ≡ b → RunsSay overlay released os ss fs₀ cs₀ (record {
-      answer = listed_count (pick o (pick (pick a b false) (Counted n) (Refused (TooShort 2))) (Refused (Malformed 0)));
+      answer = listed_count (pick o (pick (pick a b false) (Ok n) (Err (TooShort 2))) (Err (Malformed 0)));
       firsts = pick o (pick (pick a b false) (over (origins (runs_of t)) fs₀) fs₀) fs₀;
       counts = pick o (pick (pick a b false) (over (sizes (runs_of t)) cs₀) cs₀) cs₀;
     })

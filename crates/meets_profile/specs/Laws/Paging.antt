@@ -1,10 +1,8 @@
 -- Each bank's pages, as the library answers them after a yes, are those that the sentences say.
-use Rattle.std.specs.Prelude.{◌≡◌, refl, map, ℕ, ◌-◌, ◌≤◌, ◌<◌, length, get_or, replicate}
+use Rattle.std.specs.Prelude.{◌≡◌, refl, map, ℕ, ◌-◌, ◌≤◌, ◌<◌, length, get_or, replicate, Option, None, Some}
 use Rattle.std.proofs.Common.{sym, ap, subst, ◌∙◌, ⊎_elim, arith}
 use Rattle.std.proofs.Math.ListN.{length-append, length-map, length-replicate, length-take}
 use Rattle.prelude.specs.Limits.{max_banks}
-use Rattle.prelude.specs.declared.Opt.{Opt}
-use Rattle.prelude.specs.declared.Opt.TheVariants.{None, Some}
 use Rattle.bankdef.specs.Check.{banks_of}
 use Rattle.bankdef.specs.Theorems.Refused.{accepted}
 use Rattle.bankdef.specs.declared.Bankdef.{Bankdef}
@@ -27,7 +25,7 @@ use Rattle.meets_profile.specs.Laws.Tried.{Keeps}
 
 -- a bank of the table, by its record
 module _ (g : Given) (page b : ℕ) (there : b < banks g) (def : Bankdef) (t : Tells g b def) (sized : BadSize g page b → ⊥) where
-  by-record : (o s : Opt) → def.offset ≡ o → def.size ≡ s → Pages g page b (pages_by page o s)
+  by-record : (o s : Option ℕ) → def.offset ≡ o → def.size ≡ s → Pages g page b (pages_by page o s)
   by-record None s e f = p.none (λ o l at. some-apart (sym e ∙ t.has-offset o at))
   by-record (Some o) None e f = absurd (sized (p.no_size (t.placed o e) (λ m z. some-apart (sym f ∙ t.has-size m z))))
   by-record (Some o) (Some m) e f = p.pages there (t.placed o e) (t.sized m f)

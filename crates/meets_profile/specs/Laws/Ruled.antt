@@ -1,17 +1,14 @@
 -- The library's six rules are the sentences' rules: what a test refuses breaks the rule, what it passes does not, and the first that is refused is
 -- the first that is named.
-use Rattle.std.specs.Prelude.{◌≡◌, Bool, true, false, not, ◌||◌, eqb, leb}
+use Rattle.std.specs.Prelude.{◌≡◌, Bool, true, false, not, ◌||◌, eqb, leb, Err, None, Some, Option}
 use Rattle.std.proofs.Math.Path.{refl, subst}
 use Rattle.std.proofs.Common.{sym, ap, ◌∙◌, ⊎_elim, div-add-mod', arith, eqb-true, eq-eqb, ne_eqb, leb-true, leb-false}
 use Prim.Native.Nat.{ℕ, zero, suc, ◌/◌, ◌%◌, ◌<◌}
 use Rattle.std.proofs.Math.Nat.{mul-mod_left}
 use Rattle.std.proofs.lemmas.Bool.{eqb-false, not-false}
 use Rattle.prelude.specs.Laws.Bools.{either, clash, unlike, neither}
-use Rattle.prelude.specs.declared.Opt.{Opt}
-use Rattle.prelude.specs.declared.Opt.TheVariants.{None, Some}
 use Rattle.prelude.specs.declared.Refusal.TheVariants.{OffProfile}
-use Rattle.prelude.specs.declared.Verdict.{Verdict}
-use Rattle.prelude.specs.declared.Verdict.TheVariants.{Accepted, Refused}
+use Rattle.prelude.specs.Verdict.{Verdict, Accepted}
 use Rattle.bankdef.specs.Theorems.Refused.{accepted}
 use Rattle.bankdef.specs.declared.Bankdef.{Bankdef}
 use Rattle.nodes.specs.Lists.{first_of}
@@ -48,7 +45,7 @@ module _ {Y : Type 0} (told : Verdict → Y) (rule n m : ℕ) (same : n ≡ m) (
   none-bad e k f = let h : k < n = omega (arith, f.so.0) in good k h (kept-all keeps n e k h) f.so.1
 
   rule-says : (Then : Y → Type 0) (rest : Verdict) → (((k : ℕ) → Lowest k → ⊥) → Then (told rest))
-      → Tries Lowest (λ k. told (Refused (OffProfile rule k))) Then (told (first_of (ruled rule keeps n) rest))
+      → Tries Lowest (λ k. told (Err (OffProfile rule k))) Then (told (first_of (ruled rule keeps n) rest))
   rule-says Then rest then =
       either (all keeps n)
       (λ e. rw e (passed (none-bad e) (then (none-bad e))))
@@ -97,14 +94,14 @@ module _ (g : Given) (b : ℕ) (def : Bankdef) (t : Tells g b def) where
   label-bad : bank_aligned def.align ≡ false → BadLabel g b
   label-bad e = go def.align refl e
     where
-      go : (o : Opt) → def.align ≡ o → bank_aligned o ≡ false → BadLabel g b
+      go : (o : Option ℕ) → def.align ≡ o → bank_aligned o ≡ false → BadLabel g b
       go None q f = yes-no f
       go (Some a) q f = let w = aligned-false a f in p.label (t.aligned a q) w.0 w.1
 
   label-good : bank_aligned def.align ≡ true → BadLabel g b → ⊥
   label-good e (p.label {a} al some off) = go def.align refl e
     where
-      go : (o : Opt) → def.align ≡ o → bank_aligned o ≡ true → ⊥
+      go : (o : Option ℕ) → def.align ≡ o → bank_aligned o ≡ true → ⊥
       go None q f = t.unaligned q al.0
       go (Some x) q f =
           let same : x ≡ a = (t.aligned x q).1 ∙ sym al.1 in
@@ -114,7 +111,7 @@ module _ (g : Given) (b : ℕ) (def : Bankdef) (t : Tells g b def) where
     offset-bad : on_page page def.offset ≡ false → BadOffset g page b
     offset-bad e = go def.offset refl e
       where
-        go : (o : Opt) → def.offset ≡ o → on_page page o ≡ false → BadOffset g page b
+        go : (o : Option ℕ) → def.offset ≡ o → on_page page o ≡ false → BadOffset g page b
         go None q f = yes-no f
         go (Some o) q f = p.off-page (t.placed o q) (not-whole page o f)
 
@@ -125,20 +122,20 @@ module _ (g : Given) (b : ℕ) (def : Bankdef) (t : Tells g b def) where
     size-bad : whole_pages page def.offset def.size ≡ false → BadSize g page b
     size-bad e = go def.offset def.size refl refl e
       where
-        go : (o s : Opt) → def.offset ≡ o → def.size ≡ s → whole_pages page o s ≡ false → BadSize g page b
+        go : (o s : Option ℕ) → def.offset ≡ o → def.size ≡ s → whole_pages page o s ≡ false → BadSize g page b
         go None s q r f = yes-no f
         go (Some o) None q r f = p.no_size (t.placed o q) (λ m z. some-apart (sym r ∙ t.has-size m z))
         go (Some o) (Some m) q r f = p.ragged (t.placed o q) (t.sized m r) (not-whole page m f)
 
     size-good : whole_pages page def.offset def.size ≡ true → BadSize g page b → ⊥
-    size-good e (p.no_size {o} at none) = go def.size refl (sym (ap (λ (x : Opt). whole_pages page x def.size) (t.has-offset o at)) ∙ e)
+    size-good e (p.no_size {o} at none) = go def.size refl (sym (ap (λ (x : Option ℕ). whole_pages page x def.size) (t.has-offset o at)) ∙ e)
       where
-        go : (s : Opt) → def.size ≡ s → whole_pages page (Some o) s ≡ true → ⊥
+        go : (s : Option ℕ) → def.size ≡ s → whole_pages page (Some o) s ≡ true → ⊥
         go None r f = yes-no (sym f)
         go (Some m) r f = none m (t.sized m r)
     size-good e (p.ragged {o} {m} at sized off) =
         off (whole-when page m (sym (ap (whole_pages page (Some o)) (t.has-size m sized))
-        ∙ sym (ap (λ (x : Opt). whole_pages page x def.size) (t.has-offset o at)) ∙ e))
+        ∙ sym (ap (λ (x : Option ℕ). whole_pages page x def.size) (t.has-offset o at)) ∙ e))
 
   unit-bad : unit_kept def.unit ≡ false → BadUnit g b
   unit-bad e =
@@ -242,7 +239,7 @@ module _ (g : Given) where
 
     module _ (page : ℕ) {Y : Type 0} (told : Verdict → Y) where
       abbrev broken : ℕ → ℕ → Y
-      broken rule at = told (Refused (OffProfile rule at))
+      broken rule at = told (Err (OffProfile rule at))
 
       page-says : (Then : Y → Type 0) (rest : Verdict) → (((x : Unit {0}) → Not (OneBit page) → ⊥) → Then (told rest))
           → Tries (λ (_ : Unit {0}). Not (OneBit page)) (λ _. broken 1 0) Then (told (first_of (ruled 1 (λ k. one_bit page) 1) rest))
@@ -259,7 +256,7 @@ module _ (g : Given) where
 
       last-alone : (v : Verdict) → first_of v Accepted ≡ v
       last-alone Accepted = refl
-      last-alone (Refused why) = refl
+      last-alone (Err why) = refl
 
       abbrev in-bank : (b : ℕ) → b < (table g).len → Tells g b (bank_record (table g) b)
       in-bank b h = is.tells b h

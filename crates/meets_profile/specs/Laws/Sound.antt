@@ -1,18 +1,18 @@
 -- Where the library's checks of the table and of the lists accept, none of refusals 1 to 4 of the sentences is met: an ordinary build has then run a pass,
 -- and by its sentences one that is refused 1 to 4 has run none.
-use Rattle.std.specs.Prelude.{◌≡◌, List, [], ℕ, ◌≤◌, ◌<◌}
+use Rattle.std.specs.Prelude.{◌≡◌, List, [], ℕ, ◌≤◌, ◌<◌, Err, Ok, Result}
 use Rattle.std.proofs.Math.Path.{refl}
 use Rattle.std.proofs.Common.{◌∙◌, arith}
-use Rattle.prelude.specs.declared.Verdict.TheVariants.{Accepted}
+use Rattle.prelude.specs.Verdict.{Accepted}
+use Rattle.prelude.specs.declared.Refusal.{Refusal}
 use Rattle.bankdef.specs.Check.{check_of}
 use Rattle.bankdef.specs.declared.Bankdefs.{Bankdefs}
 use Rattle.nodes.specs.Lists.{Lists, lists_of}
 use Rattle.iter.specs.declared.Lost.{Lost}
 use Rattle.output.specs.Output as out
 use Rattle.output.specs.Output.{Input, room_of, build_of, passes_of}
-use Rattle.output.specs.declared.Build.{Build}
-use Rattle.output.specs.declared.Build.TheVariants.{Done, Refused}
 use Rattle.output.specs.declared.Output.{Output}
+use Rattle.output.specs.declared.Built.{Built}
 use Rattle.build_paged.specs.InProfile.{leaves}
 use Rattle.resolver.specs.Layout.{Checked, layout_of}
 use Rattle.resolver.specs.Passes.{pass_at, resolution_of}
@@ -50,9 +50,9 @@ module _ (g : Given) (typed : Typed g) where
   unfolding build_of
   by-definition old = has-outcome g typed (lent_so old)
 
-  told-passes : (x : Build) (n : ℕ) (sums : List Lost) → (build_told x n sums).passes ≡ n
-  told-passes (Done k length spans) n sums = refl
-  told-passes (Refused why) n sums = refl
+  told-passes : (x : Result Built Refusal) (n : ℕ) (sums : List Lost) → (build_told x n sums).passes ≡ n
+  told-passes (Ok ended) n sums = refl
+  told-passes (Err why) n sums = refl
 
   abbrev built : Output
   built = build_of b (room_of (lent_of nothing))

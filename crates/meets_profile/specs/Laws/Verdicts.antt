@@ -1,17 +1,15 @@
 -- The verdict of the profile, as the two calls tell it: 1 to 4 as the build's sentences have them, then the rules, then what comes after a yes.
-use Rattle.std.specs.Prelude.{◌≡◌, ℕ, ◌≤◌}
+use Rattle.std.specs.Prelude.{◌≡◌, ℕ, ◌≤◌, Err}
 use Rattle.std.proofs.Math.Path.{refl}
 use Rattle.std.proofs.Common.{ap, subst, arith}
 use Rattle.prelude.specs.Refusals.{number_of, place_of}
 use Rattle.prelude.specs.declared.Refusal.{Refusal}
-use Rattle.prelude.specs.declared.Verdict.{Verdict}
-use Rattle.prelude.specs.declared.Verdict.TheVariants.{Accepted, Refused}
+use Rattle.prelude.specs.Verdict.{Verdict, Accepted}
 use Rattle.bankdef.specs.Check.{check_of}
 use Rattle.nodes.specs.Lists.{lists_of, first_of}
 use Rattle.resolver.specs.Layout.{Checked, layout_of}
 use Rattle.resolver.proofs.RefusedExactly.{table-first, lists-next}
 use Rattle.resolver.specs.declared.Resolution.{Resolution}
-use Rattle.resolver.specs.declared.Settled.TheVariants.{Refused as Unsettled}
 use Rattle.build_profile.specs.Profile.{verdict_of}
 use Rattle.build_profile.specs.Rules.{rules_of}
 use Rattle.c_tables.specs.Tables.{choices_by}
@@ -56,7 +54,7 @@ module _ (g : Given) (old : Lent) where
     -- ---- 1 to 4
 
     refused-first : (why : Refusal)
-        → layout_of (table g) (listed g) (choices_by g.limit g.fill g.closed) ≡ record { settled = Unsettled why; passes = 0 }
+        → layout_of (table g) (listed g) (choices_by g.limit g.fill g.closed) ≡ record { settled = Err why; passes = 0 }
         → BuildSays g old (answered g typed old why 0)
     refused-first why e =
         subst (λ (n : ℕ). BuildSays g old (answered g typed old why n)) (ap (λ (r : Resolution). r.passes) e)
@@ -67,11 +65,11 @@ module _ (g : Given) (old : Lent) where
       -- a verdict as it is told
       abbrev pub told_as : Verdict → Z
       told_as Accepted = yes
-      told_as (Refused why) = refusing (number_of why) (told.first_of (place_of why)) (told.second_of (place_of why))
+      told_as (Err why) = refusing (number_of why) (told.first_of (place_of why)) (told.second_of (place_of why))
 
       pub early : (After : Z → Type 0) (why : Refusal)
-          → layout_of (table g) (listed g) (choices_by g.limit g.fill g.closed) ≡ record { settled = Unsettled why; passes = 0 }
-          → Checks g refusing After (told_as (Refused why))
+          → layout_of (table g) (listed g) (choices_by g.limit g.fill g.closed) ≡ record { settled = Err why; passes = 0 }
+          → Checks g refusing After (told_as (Err why))
       early After why e =
           subst (Checks g refusing After) (same (number_of why) (told.first_of (place_of why)) (told.second_of (place_of why)))
           (checks-map g (λ number place second. refusal g old number place second 0) (Laid g old) tells same (answered g typed old why 0)
@@ -87,13 +85,13 @@ module _ (g : Given) (old : Lent) where
         lists-next-say : check_of (table g) ≡ Accepted → (v : Verdict) → lists_of (table g).len (listed g) g.fill ≡ v
             → Checks g refusing (Rules g page (refusing 19) Then) (told_as (first_of v (rules_of (table g) (listed g) page)))
         lists-next-say t Accepted e = rules-next (record { table = t; lists = e })
-        lists-next-say t (Refused why) e = early _ why (lists-next (table g) (listed g) (choices_by g.limit g.fill g.closed) why t e)
+        lists-next-say t (Err why) e = early _ why (lists-next (table g) (listed g) (choices_by g.limit g.fill g.closed) why t e)
 
         table-first-says : (v : Verdict) → check_of (table g) ≡ v
             → Checks g refusing (Rules g page (refusing 19) Then)
             (told_as (first_of v (first_of (lists_of (table g).len (listed g) g.fill) (rules_of (table g) (listed g) page))))
         table-first-says Accepted e = lists-next-say e (lists_of (table g).len (listed g) g.fill) refl
-        table-first-says (Refused why) e = early _ why (table-first (table g) (listed g) (choices_by g.limit g.fill g.closed) why e)
+        table-first-says (Err why) e = early _ why (table-first (table g) (listed g) (choices_by g.limit g.fill g.closed) why e)
 
         -- What the profile's verdict is told as is what the sentences say.
         pub verdict-says : Checks g refusing (Rules g page (refusing 19) Then) (told_as (verdict_of (table g) (listed g) g.fill page))

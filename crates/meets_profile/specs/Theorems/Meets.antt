@@ -1,9 +1,8 @@
 -- Every outcome of `dk_profile` and of `dk_build_paged` meets its sentences: whatever is given and lent, what the contract tells of the call is what
 -- document 02, Ticket 9 says. Of the build: refusals 1 to 4 and 19 before the first pass, and after a yes the contract of `dk_build`.
-use Rattle.std.specs.Prelude.{◌≡◌, refl, ℕ, replicate}
+use Rattle.std.specs.Prelude.{◌≡◌, refl, ℕ, replicate, Err}
 use Rattle.std.proofs.Common.{sym, ap, subst, ◌∙◌}
-use Rattle.prelude.specs.declared.Verdict.{Verdict}
-use Rattle.prelude.specs.declared.Verdict.TheVariants.{Accepted, Refused}
+use Rattle.prelude.specs.Verdict.{Verdict, Accepted}
 use Rattle.form_build.specs.Paged.{after_said}
 use Rattle.nodes.specs.Lists.{lists}
 use Rattle.output.specs.Output as out
@@ -59,7 +58,7 @@ module _ (g : Given) (typed : Typed g) (page : ℕ) where
 
   as-told : (v : Verdict) → answers v ≡ profile_told (paged_by v page (table g))
   as-told Accepted = refl
-  as-told (Refused why) = refl
+  as-told (Err why) = refl
 
   -- What the contract of `dk_profile` says of an answer, the sentences say.
   pub profile-meets : (r : DkProfile) → ProfileContract g page r → ProfileSays g page r
@@ -90,7 +89,7 @@ module _ (g : Given) (typed : Typed g) (page : ℕ) (old : out.Lent) where
 
   as-built : (v : Verdict) → comes_to v ≡ outcome_of (layout_told (after_said v (build_of b (room_of old)))) (leaves b old (after_said v (build_of b (room_of old))))
   as-built Accepted = refl
-  as-built (Refused why) = refl
+  as-built (Err why) = refl
 
   comes-to : (r : DkLayout) (new : out.Lent) → PagedTold page b old r new → outcome_of r new ≡ comes_to (said_of page b)
   comes-to r new t =

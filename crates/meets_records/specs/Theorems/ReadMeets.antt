@@ -1,5 +1,5 @@
 -- What `dk_read_records` promises says its sentences, for Intel HEX and for S-records.
-use Rattle.std.specs.Prelude.{◌≡◌, refl, Bool, true, false, ◌&&◌, List, ◌⊎◌, ℕ, ◌+◌, ◌-◌, ◌≤◌, ◌<◌, length, get_or}
+use Rattle.std.specs.Prelude.{◌≡◌, refl, Bool, true, false, ◌&&◌, List, ◌⊎◌, ℕ, ◌+◌, ◌-◌, ◌≤◌, ◌<◌, length, get_or, Ok, Err}
 use Rattle.std.proofs.Common.{sym, ap, ◌∙◌, subst, inl, inr, ⊎_elim, arith, leb-true, leb-false, lt-ltb, le-ltb}
 use Rattle.std.proofs.Math.Decide.{dec_lt}
 use Rattle.std.proofs.lemmas.List.{length-map}
@@ -9,7 +9,6 @@ use Rattle.prelude.specs.Pick.{pick}
 use Rattle.prelude.specs.declared.Refusal.TheVariants.{TooShort}
 use Rattle.sort.specs.Laws.Sorted.{le-or-lt}
 use Rattle.blocks.specs.declared.Block.{Block}
-use Rattle.blocks.specs.declared.Blocks.TheVariants.{Found, Refused}
 use Rattle.blocks.specs.Theorems.Exactly.{room-exactly, no-room-exactly}
 use Rattle.blocks.specs.Outcome.{origins, sizes, over}
 use Rattle.record_lines.specs.Pieces.{Piece}
@@ -95,7 +94,7 @@ module _ (format load : ℕ) (text : List ℕ) (old : Lent) where
         (λ _. refusal format load text old 14 2)
         (Accepts format load text old ps (origins made) (sizes made)))
         (record {
-          answer = blocks_count (pick a (pick b (Found (length made)) (Refused (TooShort 2))) (Refused (TooShort 0)));
+          answer = blocks_count (pick a (pick b (Ok (length made)) (Err (TooShort 2))) (Err (TooShort 0)));
           lent = seen (pick (a && b) (fill.taken load out before) before);
         })
     tried false b x y =

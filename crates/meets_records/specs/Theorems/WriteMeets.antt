@@ -1,10 +1,11 @@
 -- What `dk_write_hex` and `dk_write_srec` promise says their sentences, for an image of bytes.
-use Rattle.std.specs.Prelude.{◌≡◌, refl, Bool, true, false, ◌&&◌, List, ◌++◌, ℕ, ◌+◌, ◌-◌, ◌^◌, leb, eqb, length, drop}
+use Rattle.std.specs.Prelude.{◌≡◌, refl, Bool, true, false, ◌&&◌, List, ◌++◌, ℕ, ◌+◌, ◌-◌, ◌^◌, leb, eqb, length, drop, Ok, Err, Result}
 use Rattle.std.proofs.Common.{sym, subst, arith, leb-true, leb-false, eqb-true}
 use Rattle.std.proofs.lemmas.Bool.{eqb-false}
 use Rattle.prelude.specs.Laws.Bools.{either, both}
 use Rattle.prelude.specs.Pick.{pick}
 use Rattle.prelude.specs.declared.Refusal.TheVariants.{Malformed, TooShort, BadPart as Unfit}
+use Rattle.prelude.specs.declared.Refusal.{Refusal}
 use Rattle.bitvec.specs.Bits.{Bytes}
 use Rattle.blocks.specs.declared.Block.{Block}
 use Rattle.record_lines.specs.Pieces.{Piece}
@@ -17,8 +18,6 @@ use Rattle.record_write.specs.Theorems.Exactly.{parts-exactly, placed-exactly}
 use Rattle.record_write.specs.Theorems.Rising.{pieces-rise}
 use Rattle.record_write.specs.Laws.Said.{hex-text-lines, srec-text-lines}
 use Rattle.record_write.specs.Outcome.{input, answer_of, text_after, text, sound}
-use Rattle.record_write.specs.declared.Written.{Written}
-use Rattle.record_write.specs.declared.Written.TheVariants.{Length, Refused}
 use Rattle.record_write.specs.Srec.{width_ok, places_ok, answer_srec, lent_srec}
 use Rattle.record_write.specs.Theorems.Width.{places-exactly, width_is}
 use Rattle.record_write.specs.Laws.Width.{pieces-fit}
@@ -48,7 +47,7 @@ module _ (g : Given) (old : List ℕ) where
   file_by format = text (input format g.image g.offsets g.sizes g.load)
 
   room : (file : List ℕ) (c : Bool) → leb (length file) (length old) ≡ c → Leaves g old file (record {
-    answer = written_count (pick c (Length (length file)) (Refused (TooShort 3)));
+    answer = written_count (pick c (Ok (length file)) (Err (TooShort 3)));
     text = pick c (file ++ drop (length file) old) old;
   })
   room file true e = passed (λ _ lt. omega (arith, leb-true (length file) (length old) e))
@@ -58,11 +57,11 @@ module _ (g : Given) (old : List ℕ) where
   -- an answer by three tests, and the text by the same
   abbrev by_tests : List ℕ → Bool → Bool → Bool → Outcome
   by_tests file a b c = record {
-    answer = written_count (pick a (pick b (pick c (Length (length file)) (Refused (TooShort 3))) (Refused (Malformed 0))) (Refused Unfit));
+    answer = written_count (pick a (pick b (pick c (Ok (length file)) (Err (TooShort 3))) (Err (Malformed 0))) (Err Unfit));
     text = pick (a && b && c) (file ++ drop (length file) old) old;
   }
 
-  told-as : (says : Outcome → Type 0) {answer : Written} {after : List ℕ} (r : DkCount) (new : List ℕ) → WriteTold answer after r new
+  told-as : (says : Outcome → Type 0) {answer : Result ℕ Refusal} {after : List ℕ} (r : DkCount) (new : List ℕ) → WriteTold answer after r new
       → says (record { answer = written_count answer; text = after }) → says (record { answer = r; text = new })
   told-as says {answer} r new c x =
       subst (λ (y : DkCount). says (record { answer = y; text = new })) (sym c.told)

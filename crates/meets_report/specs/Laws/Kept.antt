@@ -1,8 +1,6 @@
 -- What an accepted outcome leaves is as long as what was lent, its image is bytes, and its spans fit: by the sentences alone, with a page size too.
-use Rattle.std.specs.Prelude.{◌≡◌, List, ℕ, ◌≤◌, ◌<◌, length, get_or}
+use Rattle.std.specs.Prelude.{◌≡◌, List, ℕ, ◌≤◌, ◌<◌, length, get_or, Option, None, Some}
 use Rattle.std.proofs.Common.{arith}
-use Rattle.prelude.specs.declared.Opt.{Opt}
-use Rattle.prelude.specs.declared.Opt.TheVariants.{None, Some}
 use Rattle.says.specs.Words as words
 use Rattle.says.specs.Build.{Given, Lent, Outcome, BuildSays}
 use Rattle.says.specs.Form as form
@@ -33,7 +31,7 @@ paged-kept g page old y s e = from (comes g page old y s) s e
     from (answers.names c n) s e = absurd (let z : ◌≡◌ {A = ℕ} 19 0 = e in omega arith)
     from (answers.laid {y} c h t) s e = build-kept g old y ((ordinary-after-yes g page old h y).0 s) e
 
-pub layout-kept : (file : List ℕ) (fill : ℕ) (page : Opt) (old : Lent) (y : Outcome) → LayoutSays file fill page old y → y.answer.refusal ≡ 0 → Kept old y
+pub layout-kept : (file : List ℕ) (fill : ℕ) (page : Option ℕ) (old : Lent) (y : Outcome) → LayoutSays file fill page old y → y.answer.refusal ≡ 0 → Kept old y
 layout-kept file fill None old y (form.broken o x words.is) e = absurd (let z : ◌≡◌ {A = ℕ} 4 0 = e in omega arith)
 layout-kept file fill None old y (form.laid {g = g} o s l t) e = build-kept g old y t e
 layout-kept file fill (Some page) old y (paged.broken o x words.is) e = absurd (let z : ◌≡◌ {A = ℕ} 4 0 = e in omega arith)

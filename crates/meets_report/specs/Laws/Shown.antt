@@ -1,5 +1,5 @@
 -- What is printed of a build's answer, by the definitions, is the text of its outcome: the refusal's line, the blocks, and all of it.
-use Rattle.std.specs.Prelude.{◌≡◌, refl, Bool, false, ◌||◌, List, [], ◌∷◌, map, ℕ, ◌<◌, eqb, length, take}
+use Rattle.std.specs.Prelude.{◌≡◌, refl, Bool, false, ◌||◌, List, [], ◌∷◌, map, ℕ, ◌<◌, eqb, length, take, Err, Ok, Result}
 use Rattle.std.proofs.Common.{sym, ap, subst, ◌∙◌, inl, inr, ⊎_elim, arith, length-take}
 use Rattle.std.proofs.lemmas.Bool.{eqb-false}
 use Rattle.prelude.specs.Laws.Bools.{neither}
@@ -14,8 +14,6 @@ use Rattle.sort.specs.Numbers.{order}
 use Rattle.iter.specs.declared.Lost.{Lost}
 use Rattle.blocks.specs.Spans.{spans_of}
 use Rattle.blocks.specs.Walk.{blocks_of}
-use Rattle.output.specs.declared.Build.{Build}
-use Rattle.output.specs.declared.Build.TheVariants.{Done, Refused}
 use Rattle.c_answers.specs.Told.{first_of, second_of, build_told}
 use Rattle.c_answers.specs.declared.DkLayout.{DkLayout}
 use Rattle.print_text.specs.Ascii.{ascii}
@@ -30,6 +28,8 @@ use Rattle.meets.specs.Laws.Words.{OneOnly}
 use Rattle.meets.specs.Theorems.Blocks.{run, runs, walk_is, walk, blocks-in-order}
 use Rattle.meets.specs.Theorems.Ordered.{order-decides, order-meets}
 use Rattle.meets_report.specs.Laws.Lines.{line-one, line-meets, blocks-meet, image-by}
+use Rattle.output.specs.declared.Built.{Built}
+use Rattle.output.specs.Built.{done_with}
 
 -- ---- the refusal's line
 
@@ -70,7 +70,7 @@ numbers-meet FillBitDropped = report.one (not-two 18 refl)
 numbers-meet (OffProfile a b) = report.two (inr (inr refl))
 
 module _ (passes : ℕ) (padding : List Lost) where
-  pub refusal-meets : (why : Refusal) → RefusalLine (build_told (Refused why) passes padding) (refusal_text why)
+  pub refusal-meets : (why : Refusal) → RefusalLine (build_told (Err why) passes padding) (refusal_text why)
   refusal-meets why = report.refuses (number-some why) (numbers-meet why) (line-meets (ascii "refused") (number_of why ∷ place_numbers (place_of why)))
 
 -- ---- the blocks
@@ -100,18 +100,18 @@ module _ (y : Outcome) (same : length y.lent.offsets ≡ length y.lent.sizes) wh
 module _ (passes : ℕ) (padding : List Lost) where
   done-spelt : (k bits n : ℕ) (l : Lent) (t : List ℕ) → length l.offsets ≡ length l.sizes
       → t ≡ done_text k bits (take n l.offsets) (take n l.sizes) l.image
-      → Reports (record { answer = build_told (Done k bits n) passes padding; lent = l }) t
+      → Reports (record { answer = build_told (done_with k bits n) passes padding; lent = l }) t
   done-spelt k bits n l t same e =
-      let y : Outcome = record { answer = build_told (Done k bits n) passes padding; lent = l } in
+      let y : Outcome = record { answer = build_told (done_with k bits n) passes padding; lent = l } in
       rw e (report.accepted refl (line-meets (ascii "passes") (k ∷ [])) (blocks-of-meet y same)
       (blocks-meet (blocks_of (spans_of (take n l.offsets) (take n l.sizes)))) (image-by l.image bits (hex_of l.image bits) refl))
 
   done-shown : (k bits n : ℕ) (l : Lent) → length l.offsets ≡ length l.sizes
-      → Reports (record { answer = build_told (Done k bits n) passes padding; lent = l })
+      → Reports (record { answer = build_told (done_with k bits n) passes padding; lent = l })
       (done_text k bits (take n l.offsets) (take n l.sizes) l.image)
   done-shown k bits n l same = done-spelt k bits n l _ same refl
 
-  pub shown : (q : Build) (l : Lent) → length l.offsets ≡ length l.sizes
+  pub shown : (q : Result Built Refusal) (l : Lent) → length l.offsets ≡ length l.sizes
       → Reports (record { answer = build_told q passes padding; lent = l }) (answered q l.image l.offsets l.sizes)
-  shown (Refused why) l same = report.refused (refusal-meets passes padding why)
-  shown (Done k bits n) l same = done-spelt k bits n l (answered (Done k bits n) l.image l.offsets l.sizes) same refl
+  shown (Err why) l same = report.refused (refusal-meets passes padding why)
+  shown (Ok ended) l same = done-spelt ended.k ended.length ended.spans l (answered (Ok ended) l.image l.offsets l.sizes) same refl

@@ -1,9 +1,7 @@
 -- The sentences of what `layout` prints leave one text: one outcome for what is lent (`form-decides`, `form-paged-decides`), and one text of an outcome.
-use Rattle.std.specs.Prelude.{◌≡◌, refl, List, ◌∷◌, [], ◌++◌, ℕ, pos, length, replicate}
+use Rattle.std.specs.Prelude.{◌≡◌, refl, List, ◌∷◌, [], ◌++◌, ℕ, pos, length, replicate, Option, None, Some}
 use Rattle.std.proofs.Common.{ap₂, subst, arith}
 use Rattle.std.proofs.lemmas.List.{length-replicate}
-use Rattle.prelude.specs.declared.Opt.{Opt}
-use Rattle.prelude.specs.declared.Opt.TheVariants.{None, Some}
 use Rattle.print_text.specs.Ascii.{ascii}
 use Rattle.says.specs.Blocks.{Block as Run}
 use Rattle.says.specs.Build.{Lent, Outcome}
@@ -15,7 +13,7 @@ use Rattle.meets_form_paged.specs.Theorems.Decides.{form-paged-decides}
 use Rattle.meets_report.specs.Laws.Lines.{line-one, blocks-one, image-one}
 use Rattle.meets_report.specs.Laws.Shown.{refusal-one, blocks-of-one}
 
-pub layout-decides : (file : List ℕ) (fill : ℕ) (page : Opt) (old : Lent) → OneOnly (LayoutSays file fill page old)
+pub layout-decides : (file : List ℕ) (fill : ℕ) (page : Option ℕ) (old : Lent) → OneOnly (LayoutSays file fill page old)
 layout-decides file fill None old = form-decides file fill old
 layout-decides file fill (Some page) old = form-paged-decides file fill page old
 
@@ -40,7 +38,7 @@ some-lent n m = (
   length-replicate m 0,
 )
 
-pub report-decides : (file : List ℕ) (fill : ℕ) (page : Opt) → OneOnly (ReportSays file fill page)
+pub report-decides : (file : List ℕ) (fill : ℕ) (page : Option ℕ) → OneOnly (ReportSays file fill page)
 report-decides file fill page t u f g = go (some-lent 16384 4096)
   where
     go : (old : Lent) × (length old.image ≡ 16384) × (length old.addresses ≡ 4096) × (length old.offsets ≡ 4096) × (length old.sizes ≡ 4096) → t ≡ u

@@ -1,10 +1,8 @@
 -- What the program `layout` prints for a file, by the definitions, says the sentences: it is the text of the outcome of `dk_form` (`form-meets`), or of
 -- `dk_form_paged` where there is a page size, whatever is lent holds.
-use Rattle.std.specs.Prelude.{◌≡◌, refl, List, ℕ, ◌+◌, ◌-◌, length, drop}
+use Rattle.std.specs.Prelude.{◌≡◌, refl, List, ℕ, ◌+◌, ◌-◌, length, drop, Option, None, Some, Err, Ok, Result}
 use Rattle.std.proofs.Common.{sym, subst, ◌∙◌, arith, length-append, length-drop}
 use Rattle.std.proofs.lemmas.List.{length-map}
-use Rattle.prelude.specs.declared.Opt.{Opt}
-use Rattle.prelude.specs.declared.Opt.TheVariants.{None, Some}
 use Rattle.bankdef.specs.declared.Bankdefs.{Bankdefs}
 use Rattle.build_visits.specs.Spans.{spans_of, words, sizes, over}
 use Rattle.build_visits.specs.declared.Visit.{Visit}
@@ -13,9 +11,8 @@ use Rattle.form_fields.specs.Whole.{Bytes}
 use Rattle.form_build.specs.Filed.{lists_in, file_output, file_visits}
 use Rattle.output.specs.Output as out
 use Rattle.output.specs.Output.{room_of, left_by}
-use Rattle.output.specs.declared.Build.{Build}
-use Rattle.output.specs.declared.Build.TheVariants.{Done, Refused}
 use Rattle.output.specs.declared.Output.{Output}
+use Rattle.output.specs.declared.Built.{Built}
 use Rattle.c_answers.specs.Told.{layout_told}
 use Rattle.c_model.specs.Forms.{FormTold}
 use Rattle.print_report.specs.Report.{report_text}
@@ -27,15 +24,16 @@ use Rattle.meets_build.specs.Theorems.Meets.{lent_of}
 use Rattle.meets_form.specs.Theorems.FormMeets.{form-meets}
 use Rattle.meets_form_paged.specs.Theorems.Meets.{form-paged-meets}
 use Rattle.meets_report.specs.Laws.Shown.{shown}
+use Rattle.prelude.specs.declared.Refusal.{Refusal}
 
 over-long : (new old : List ℕ) (n m : ℕ) → length new ≡ n → length old ≡ m → length (over new old) ≡ n + (m - n)
 over-long new old n m e f = omega (arith, length-append new (drop (length new) old), length-drop (length new) old)
 
 -- the spans' lists keep one length
-paired : (t : Bankdefs) (vs : List Visit) (values : List ℕ) (old : out.Lent) (q : Build) → length old.offsets ≡ length old.sizes
+paired : (t : Bankdefs) (vs : List Visit) (values : List ℕ) (old : out.Lent) (q : Result Built Refusal) → length old.offsets ≡ length old.sizes
     → length (left_by t vs values old q).offsets ≡ length (left_by t vs values old q).sizes
-paired t vs values old (Refused why) same = same
-paired t vs values old (Done k bits n) same =
+paired t vs values old (Err why) same = same
+paired t vs values old (Ok ended) same =
     let spans = spans_of vs in
     over-long (words spans) old.offsets (length spans) (length old.sizes) (length-map spans _) same
     ∙ sym (over-long (sizes spans) old.sizes (length spans) (length old.sizes) (length-map spans _) refl)
@@ -51,7 +49,7 @@ module _ (file : List ℕ) (old : Lent) (o : Output) where
   as-paired-of : length old.offsets ≡ length old.sizes → length left-of.offsets ≡ length left-of.sizes
   as-paired-of = paired (table_of file) (file_visits file o.passes) (lists_in file).values (lent_of old) o.build
 
-module _ (file : List ℕ) (small : Bytes file) (fill : ℕ) (page : Opt) (old : Lent) where
+module _ (file : List ℕ) (small : Bytes file) (fill : ℕ) (page : Option ℕ) (old : Lent) where
   -- the file's output
   abbrev its : Output
   its = file_output file fill page (room_of (lent_of old))
@@ -67,7 +65,7 @@ module _ (file : List ℕ) (small : Bytes file) (fill : ℕ) (page : Opt) (old :
       (shown its.passes its.padding its.build (lent_so (left-of file old its)) (rw is at same)))
 
 -- what the library says of the file
-pub layout-of : (file : List ℕ) (small : Bytes file) (fill : ℕ) (page : Opt) (old : Lent)
+pub layout-of : (file : List ℕ) (small : Bytes file) (fill : ℕ) (page : Option ℕ) (old : Lent)
     → LayoutSays file fill page old (outcome-of file old (file_output file fill page (room_of (lent_of old))))
 layout-of file small fill None old =
     let o = file_output file fill None (room_of (lent_of old)) in
@@ -79,7 +77,7 @@ layout-of file small fill (Some page) old =
     form-paged-meets file small fill page old y.answer y.lent (told-of file small fill (Some page) old o refl)
 
 -- the file's output by its name, of which the same is said
-module _ (file : List ℕ) (small : Bytes file) (fill : ℕ) (page : Opt) (old : Lent) where
+module _ (file : List ℕ) (small : Bytes file) (fill : ℕ) (page : Option ℕ) (old : Lent) where
   abbrev pub answer : Output
   answer = file_output file fill page (room_of (lent_of old))
 
@@ -100,11 +98,11 @@ module _ (file : List ℕ) (small : Bytes file) (fill : ℕ) (page : Opt) (old :
   prints lends = prints-of file small fill page old answer refl lends (as-paired (lends.2 ∙ sym lends.3))
 
 -- so `layout-meets`, of the outcome by its name
-pub layout-meets : (file : List ℕ) (small : Bytes file) (fill : ℕ) (page : Opt) (old : Lent)
+pub layout-meets : (file : List ℕ) (small : Bytes file) (fill : ℕ) (page : Option ℕ) (old : Lent)
     → LayoutSays file fill page old (outcome file small fill page old)
 layout-meets file small fill page old = layout-of file small fill page old
 
-pub report-meets : (file : List ℕ) → Bytes file → (fill : ℕ) (page : Opt) → ReportSays file fill page (report_text file fill page)
+pub report-meets : (file : List ℕ) → Bytes file → (fill : ℕ) (page : Option ℕ) → ReportSays file fill page (report_text file fill page)
 report-meets file small fill page old lends =
     let o = file_output file fill page (room_of (lent_of old)) in
     let same = as-paired-of file old o (lends.2 ∙ sym lends.3) in

@@ -1,12 +1,9 @@
 -- Meets and decides together: what `print_report::report` puts is the one text that the sentences leave; and the first 65,537 bytes of an input, which are all
 -- that the program reads, have the text of the whole.
-use Rattle.std.specs.Prelude.{◌≡◌, refl, List, [], ◌∷◌, ◌↔◌, ℕ, zero, suc, ◌≤◌, ◌<◌, length, get_or, take}
+use Rattle.std.specs.Prelude.{◌≡◌, refl, List, [], ◌∷◌, ◌↔◌, ℕ, zero, suc, ◌≤◌, ◌<◌, length, get_or, take, Option, Some}
 use Rattle.std.proofs.Common.{sym, subst, ◌∙◌, arith, take_at}
-use Rattle.prelude.specs.declared.Opt.{Opt}
 use Rattle.form_fields.specs.Whole.{Bytes}
 use Rattle.print_text.specs.Puts.{Puts}
-use Rattle.print_text.specs.declared.Written.{Written}
-use Rattle.print_text.specs.declared.Written.TheVariants.{To}
 use Rattle.print_report.specs.Report.{report_text}
 use Rattle.print_report.specs.Room.{report_room}
 use Rattle.print_report.specs.Theorems.Room.{report-answers-length, report-stands-first, read-so-far-is-enough}
@@ -15,7 +12,7 @@ use Rattle.says.specs.Report.{Reports, Lends, LayoutSays, ReportSays}
 use Rattle.meets_report.specs.Theorems.Decides.{reports-one, layout-decides, report-decides}
 use Rattle.meets_report.specs.Theorems.Meets.{report-meets}
 
-module _ (file : List ℕ) (small : Bytes file) (fill : ℕ) (page : Opt) where
+module _ (file : List ℕ) (small : Bytes file) (fill : ℕ) (page : Option ℕ) where
   -- the text is the definition's, and nothing else
   pub report-exactly : (text : List ℕ) → ReportSays file fill page text ↔ (text ≡ report_text file fill page)
   report-exactly text = (
@@ -24,8 +21,8 @@ module _ (file : List ℕ) (small : Bytes file) (fill : ℕ) (page : Opt) where
   )
 
   -- what `report` promises is the text, from the front of the buffer on
-  pub report-says : {old : List ℕ} {r : Written} {new : List ℕ} → report_room ≤ length old → Puts (report_text file fill page) old 0 r new
-      → (n : ℕ) × (r ≡ To n) × ReportSays file fill page (take n new)
+  pub report-says : {old : List ℕ} {r : Option ℕ} {new : List ℕ} → report_room ≤ length old → Puts (report_text file fill page) old 0 r new
+      → (n : ℕ) × (r ≡ Some n) × ReportSays file fill page (take n new)
   report-says {old} {r} {new} room p =
       let text = report_text file fill page in
       let front : take (length text) new ≡ text =
@@ -48,7 +45,7 @@ bytes_take (suc n) [] h i = omega arith
 bytes_take (suc n) (x ∷ l) h zero = h 0
 bytes_take (suc n) (x ∷ l) h (suc i) = bytes_take n l (λ j. h (suc j)) i
 
-pub read-enough : (input : List ℕ) → Bytes input → (fill : ℕ) (page : Opt) (text : List ℕ)
+pub read-enough : (input : List ℕ) → Bytes input → (fill : ℕ) (page : Option ℕ) (text : List ℕ)
     → ReportSays (take 65537 input) fill page text → ReportSays input fill page text
 read-enough input small fill page text s =
     (report-exactly input small fill page text).1

@@ -1,9 +1,8 @@
 -- The sentences of what `prog_records` prints leave one text: one outcome of the library, one list of blocks, one file of them (`write-hex-decides`,
 -- `write-srec-decides`).
-use Rattle.std.specs.Prelude.{◌≡◌, refl, Bool, List, ◌++◌, ℕ, length, replicate}
+use Rattle.std.specs.Prelude.{◌≡◌, refl, Bool, List, ◌++◌, ℕ, length, replicate, Option}
 use Rattle.std.proofs.Common.{ap, subst, arith}
 use Rattle.std.proofs.lemmas.List.{length-replicate}
-use Rattle.prelude.specs.declared.Opt.{Opt}
 use Rattle.print_text.specs.Ascii.{ascii}
 use Rattle.says.specs.Blocks.{Block as Run}
 use Rattle.says.specs.Build.{Lent, Outcome}
@@ -50,7 +49,7 @@ module _ (format load : ℕ) (w : Bool) (room : List ℕ) (y : Outcome) where
 some-list : (n : ℕ) → (l : List ℕ) × (length l ≡ n)
 some-list n = (replicate n 0, length-replicate n 0)
 
-pub records-decide : (format load : ℕ) (w : Bool) (file : List ℕ) (fill : ℕ) (page : Opt) → OneOnly (RecordsSay format load w file fill page)
+pub records-decide : (format load : ℕ) (w : Bool) (file : List ℕ) (fill : ℕ) (page : Option ℕ) → OneOnly (RecordsSay format load w file fill page)
 records-decide format load w file fill page t u p q = go (some-lent 16384 4096) (some-list 131072)
   where
     go : (old : Lent) × (length old.image ≡ 16384) × (length old.addresses ≡ 4096) × (length old.offsets ≡ 4096) × (length old.sizes ≡ 4096)

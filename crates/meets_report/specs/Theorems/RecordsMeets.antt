@@ -1,6 +1,6 @@
 -- What `prog_records` prints for a file, by the definitions, says the sentences: over the outcome that the library says of the file, the file that the call
 -- which writes says of its blocks (`write-hex-meets`, `write-srec-meets`). In the room that is lent every file fits, so that 14 is not given.
-use Rattle.std.specs.Prelude.{◌≡◌, refl, Bool, true, false, ◌&&◌, ℕ, ◌+◌, ◌*◌, ◌/◌, ◌≤◌, ◌<◌, leb, eqb, length, take, drop}
+use Rattle.std.specs.Prelude.{◌≡◌, refl, Bool, true, false, ◌&&◌, ℕ, ◌+◌, ◌*◌, ◌/◌, ◌≤◌, ◌<◌, leb, eqb, length, take, drop, Ok, Err, Option, Result}
 use Rattle.std.proofs.Common.{sym, ap, ap₂, ◌∙◌, arith, le-leb, eq-eqb, eqb-true, length-take, take_at}
 use Rattle.std.proofs.Math.Path.{subst}
 use mathlib.Core.List.{List, [], ◌∷◌, ◌++◌, map}
@@ -8,8 +8,8 @@ use Rattle.std.proofs.lemmas.Bool.{eqb-false}
 use Rattle.std.proofs.lemmas.List.{length-map}
 use Rattle.prelude.specs.Laws.Bools.{either, both, clash}
 use Rattle.prelude.specs.Pick.{pick}
-use Rattle.prelude.specs.declared.Opt.{Opt}
 use Rattle.prelude.specs.declared.Refusal.TheVariants.{Malformed, TooShort, BadPart}
+use Rattle.prelude.specs.declared.Refusal.{Refusal}
 use Rattle.bitvec.specs.Bits.{Bytes}
 use Rattle.iter.specs.declared.Lost.{Lost}
 use Rattle.blocks.specs.declared.Block.{Block}
@@ -18,15 +18,14 @@ use Rattle.blocks.specs.Outcome.{origins, sizes}
 use Rattle.blocks.specs.Spans.{spans_of}
 use Rattle.blocks.specs.Theorems.Count.{blocks-few}
 use Rattle.output.specs.Output.{room_of}
-use Rattle.output.specs.declared.Build.{Build}
-use Rattle.output.specs.declared.Build.TheVariants.{Done, Refused}
+use Rattle.output.specs.declared.Built.{Built}
+use Rattle.output.specs.Built.{done_with}
 use Rattle.form_build.specs.Filed.{file_output}
 use Rattle.form_fields.specs.Whole as whole
 use Rattle.record_write.specs.Checks.{all_parts, all_placed}
 use Rattle.record_write.specs.Cut.{blocks_in}
 use Rattle.record_write.specs.Srec as srec
 use Rattle.record_write.specs.Text.{text_of}
-use Rattle.record_write.specs.declared.Written.TheVariants.{Length, Refused as Unwritten}
 use Rattle.thm_records.specs.Laws.Copied.{columns}
 use Rattle.thm_record_room.specs.Records.{format_ok, records_or}
 use Rattle.thm_record_room.specs.Theorems.Room.{station-files-fit}
@@ -58,7 +57,7 @@ module _ (text old : List ℕ) where
   abbrev by_tests : (p q f : Bool) → write.Outcome
   by_tests p q f =
       record {
-        answer = written_count (pick p (pick q (pick f (Length (length text)) (Unwritten (TooShort 3))) (Unwritten (Malformed 0))) (Unwritten BadPart));
+        answer = written_count (pick p (pick q (pick f (Ok (length text)) (Err (TooShort 3))) (Err (Malformed 0))) (Err BadPart));
         text = pick (p && q && f) (text ++ drop (length text) old) old;
       }
 
@@ -136,7 +135,7 @@ seconds (x ∷ l) = ap (λ (m : List ℕ). x.size ∷ m) (seconds l)
 
 module _ (passes : ℕ) (padding : List Lost) (l : Lent) (k bits n : ℕ) where
   abbrev y : Outcome
-  y = record { answer = build_told (Done k bits n) passes padding; lent = l }
+  y = record { answer = build_told (done_with k bits n) passes padding; lent = l }
 
   abbrev os : List ℕ
   os = take n l.offsets
@@ -160,22 +159,22 @@ module _ (passes : ℕ) (padding : List Lost) (l : Lent) (k bits n : ℕ) where
 -- ---- the text
 
 module _ (w : Wanted) (room : List ℕ) (long : length room ≡ 131072) (passes : ℕ) (padding : List Lost) where
-  pub recorded : (q : Build) (l : Lent) → ((build_told q passes padding).refusal ≡ 0 → (length l.image ≡ 16384) × (length l.offsets ≡ 4096)
+  pub recorded : (q : Result Built Refusal) (l : Lent) → ((build_told q passes padding).refusal ≡ 0 → (length l.image ≡ 16384) × (length l.offsets ≡ 4096)
       × (length l.sizes ≡ 4096) × Bytes l.image)
       → Records w.format w.load w.whole room (record { answer = build_told q passes padding; lent = l })
       (answered_by (λ (k : ℕ). done_text w) q l.image l.offsets l.sizes)
-  recorded (Refused why) l facts = says.refused (refusal-meets passes padding why)
-  recorded (Done k bits n) l facts =
+  recorded (Err why) l facts = says.refused (refusal-meets passes padding why)
+  recorded (Ok ended) l facts =
       let (image, offsets, sized, good) = facts refl in
-      let bs = blocks_by w.whole bits (os passes padding l k bits n) (ss passes padding l k bits n) in
-      let few : length bs ≤ 4096 = blocks-are-few passes padding l k bits n (omega (arith, length-take n l.offsets)) w.whole in
+      let bs = blocks_by w.whole ended.length (os passes padding l ended.k ended.length ended.spans) (ss passes padding l ended.k ended.length ended.spans) in
+      let few : length bs ≤ 4096 = blocks-are-few passes padding l ended.k ended.length ended.spans (omega (arith, length-take ended.spans l.offsets)) w.whole in
       let d = done l.image good (omega arith) w.load bs few room long w.format in
-      let is : g l.image good (omega arith) w.load bs few room long ≡ given w.load (y passes padding l k bits n) (map run bs) =
+      let is : g l.image good (omega arith) w.load bs few room long ≡ given w.load (y passes padding l ended.k ended.length ended.spans) (map run bs) =
       ap₂ (λ (a c : List ℕ). record { image = l.image; offsets = a; sizes = c; load = w.load }) (sym (firsts bs)) (sym (seconds bs)) in
-      says.laid refl (chosen-so passes padding l k bits n (offsets ∙ sym sized) w.whole (map run bs) refl)
+      says.laid refl (chosen-so passes padding l ended.k ended.length ended.spans (offsets ∙ sym sized) w.whole (map run bs) refl)
       (subst (λ (x : Given). CallSays w.format x room d.0) is d.1) d.2
 
-pub records-meet : (w : Wanted) (file : List ℕ) → whole.Bytes file → (fill : ℕ) (page : Opt)
+pub records-meet : (w : Wanted) (file : List ℕ) → whole.Bytes file → (fill : ℕ) (page : Option ℕ)
     → RecordsSay w.format w.load w.whole file fill page (records_text w file fill page)
 unfolding records_text
 records-meet w file small fill page old lends room long =

@@ -1,12 +1,11 @@
 -- What the definition of a store call answers and leaves says the sentences: way by way, as the definition goes them.
-use Rattle.std.specs.Prelude.{◌≡◌, refl, true, false, List, ℕ, ◌≤◌, ◌<◌, ltb, length}
+use Rattle.std.specs.Prelude.{◌≡◌, refl, true, false, List, ℕ, ◌≤◌, ◌<◌, ltb, length, Err}
 use Rattle.std.proofs.Common.{sym, ap, ◌∙◌, subst, ⊎_elim, arith, ltb-true}
 use Rattle.std.proofs.Math.Logic.{inl, inr}
 use Rattle.prelude.specs.Laws.Bools.{either, clash}
 use Rattle.prelude.specs.Told.{Told, Nothing}
 use Rattle.prelude.specs.declared.Refusal.{Refusal}
-use Rattle.prelude.specs.declared.Verdict.{Verdict}
-use Rattle.prelude.specs.declared.Verdict.TheVariants.{Refused}
+use Rattle.prelude.specs.Verdict.{Verdict}
 use Rattle.sort.specs.Laws.Sorted.{le-or-lt}
 use Rattle.overlap_checker.specs.declared.Entry.{Entry}
 use Rattle.overlap_checker.specs.Interval.{interval, past_limits, clashes}
@@ -167,7 +166,7 @@ module _ (s : Store) (e : Entry) (arrays : Arrays s) where
       abbrev st : State
       st = state_in a
 
-      kept : (why : Refusal) → answer st e 0 ≡ Refused why → b ≡ a
+      kept : (why : Refusal) → answer st e 0 ≡ Err why → b ≡ a
       kept why r = left ∙ ap (λ (v : Verdict). leaving v (laid_into a (after st e)) a) r
 
       over : Hit st e → Answers s e (outcome_of (figures st e 0) b)
@@ -245,7 +244,7 @@ module _ (s : Store) (e : Entry) (arrays : Arrays s) where
   within h x = let (p, z) = within-limits e h in ⊎_elim (λ f. omega (arith, p)) (λ f. omega (arith, z))
 
   module _ (b : Lent) (left : b ≡ leaving (call_answer a e) (laid_into a (after (state_in a) e)) a) where
-    kept_by : (why : Refusal) → call_answer a e ≡ Refused why → b ≡ a
+    kept_by : (why : Refusal) → call_answer a e ≡ Err why → b ≡ a
     kept_by why r = left ∙ ap (λ (v : Verdict). leaving v (laid_into a (after (state_in a) e)) a) r
 
     pub call-says : OfferSays s e (outcome_of (call_figures a e) b)

@@ -1,11 +1,10 @@
 -- An outcome that meets the sentences is the definition's, so that calls in turn by the sentences are calls in turn by the definition.
-use Rattle.std.specs.Prelude.{◌≡◌, refl, false, List, [], ◌∷◌, ◌↔◌, ℕ, ◌<◌}
+use Rattle.std.specs.Prelude.{◌≡◌, refl, false, List, [], ◌∷◌, ◌↔◌, ℕ, ◌<◌, Err}
 use Rattle.std.proofs.Common.{sym, ap, ◌∙◌, arith}
 use Rattle.prelude.specs.Told.{Told, gives, refuses, Nothing, told_number, told_verdict}
 use Rattle.prelude.specs.Theorems.Told.{number-some}
 use Rattle.prelude.specs.Refusals.{place_of}
-use Rattle.prelude.specs.declared.Verdict.{Verdict}
-use Rattle.prelude.specs.declared.Verdict.TheVariants.{Accepted, Refused}
+use Rattle.prelude.specs.Verdict.{Verdict, Accepted}
 use Rattle.overlap_checker.specs.declared.Entry.{Entry}
 use Rattle.overlap_checker.specs.State.{after, is_accepted}
 use Rattle.overlap_checker.specs.Lent as def
@@ -82,19 +81,19 @@ by_number v n some = ((λ r. ap told_number r.1), from v)
   where
     from : (v : Verdict) → told_number (told_verdict v) ≡ n → RefusedBy n v
     from Accepted e = absurd (omega arith)
-    from (Refused why) e = (place_of why, ap (λ (k : ℕ). refuses k (place_of why)) e)
+    from (Err why) e = (place_of why, ap (λ (k : ℕ). refuses k (place_of why)) e)
 
 pub accepted-by : (v : Verdict) → told_number (told_verdict v) ≡ 0 → v ≡ Accepted
 accepted-by Accepted e = refl
-accepted-by (Refused why) e = absurd (omega (arith, number-some why))
+accepted-by (Err why) e = absurd (omega (arith, number-some why))
 
 refused-by : (v : Verdict) → Not (told_number (told_verdict v) ≡ 0) → is_accepted v ≡ false
 refused-by Accepted n = absurd (n refl)
-refused-by (Refused why) n = refl
+refused-by (Err why) n = refl
 
 -- ---- calls in turn
 pub record Turned (s : Store) (es accepted : List Entry) (t : Store) : Type 0 where
-  pub verdicts : List Verdict
+  pub verdicts : List (Verdict)
   pub run : CallsInTurn (as_lent s) es verdicts (as_lent t)
   pub same : accepted_by es verdicts ≡ accepted
   pub arrays : Arrays t

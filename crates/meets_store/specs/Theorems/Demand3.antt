@@ -2,8 +2,8 @@
 -- when a further one is refused, and what is stored.
 use Rattle.std.specs.Prelude.{◌≡◌, refl, true, false, ◌↔◌, ◌⊎◌, ℕ, ◌+◌, ◌≤◌, ◌<◌, ltb, length, take}
 use Rattle.std.proofs.Common.{sym, ap, ◌∙◌, subst, inl, inr, ⊎_elim, arith, lt-ltb, le-ltb}
+use Rattle.prelude.specs.Verdict.{Verdict}
 use mathlib.Core.List.{List, ◌∷◌, Memᴰ, Permᴰ}
-use Rattle.prelude.specs.declared.Verdict.{Verdict}
 use Rattle.sort.specs.Laws.Sorted.{le-or-lt}
 use Rattle.overlap_checker.specs.declared.Entry.{Entry}
 use Rattle.overlap_checker.specs.Interval.{interval}
@@ -49,7 +49,7 @@ module _ (s : Store) (empty : Empty s) (es taken : List Entry) (all : AllWithin 
   abbrev broad : length s.marks ≡ 512
   broad = empty.arrays.marks
 
-  abbrev vs : List Verdict
+  abbrev vs : List (Verdict)
   vs = gone.verdicts
 
   sound : Sound (as_lent t)

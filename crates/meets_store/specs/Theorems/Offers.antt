@@ -1,13 +1,12 @@
 -- `dk_offers`: by its contract it says the sentences (`offers-meet`), they leave one outcome (`offers-decide`), all accepted it is so many calls of `dk_offer`
 -- one after the other (`all-are-calls`), and a refused call changes nothing that is lent (`refused-changes-none`).
-use Rattle.std.specs.Prelude.{◌≡◌, refl, List, ℕ, zero, suc, ◌≤◌, ◌<◌, length}
+use Rattle.std.specs.Prelude.{◌≡◌, refl, List, ℕ, zero, suc, ◌≤◌, ◌<◌, length, Err}
 use Rattle.std.proofs.Common.{sym, ap, subst, ◌∙◌, ⊎_elim, arith}
 use Rattle.sort.specs.Laws.Sorted.{le-or-lt}
 use Rattle.prelude.specs.Told.{Told, Nothing, told_verdict}
 use Rattle.prelude.specs.Theorems.Told.{number-some}
 use Rattle.prelude.specs.declared.Refusal.TheVariants.{BadStore}
-use Rattle.prelude.specs.declared.Verdict.{Verdict}
-use Rattle.prelude.specs.declared.Verdict.TheVariants.{Refused}
+use Rattle.prelude.specs.Verdict.{Verdict}
 use Rattle.overlap_checker.specs.declared.Entry.{Entry}
 use Rattle.overlap_checker.specs.Interval.{interval}
 use Rattle.overlap_checker.specs.State.{after}
@@ -204,13 +203,13 @@ module _ (s : Store) (starts lengths : List ℕ) (arrays : Arrays s) where
   goes-said (m.all k) = o.all-kept (kept-said k).0
   goes-said (m.stopped {n} {b} {c} {why} h k call) =
       let (kept, wide) = kept-said k in
-      o.one-refused h kept (said (as_store b) (offer s starts lengths n) (Refused why) c wide call) (λ z. omega (arith, number-some why, z))
+      o.one-refused h kept (said (as_store b) (offer s starts lengths n) (Err why) c wide call) (λ z. omega (arith, number-some why, z))
 
   pub offers-meet : {v : Verdict} {n : ℕ} {b : Lent} → Takes (as_lent s) starts lengths v n b → OffersSay s starts lengths (result_of v n b)
   offers-meet (m.bad-store {place} bad) =
       let none = interval 0 0 in
-      fifteen (said s none (Refused (BadStore place)) (as_lent s) arrays
-      (called-refused (as_lent s) none (Refused (BadStore place)) (sym (bad none)) (BadStore place) refl)) refl
+      fifteen (said s none (Err (BadStore place)) (as_lent s) arrays
+      (called-refused (as_lent s) none (Err (BadStore place)) (sym (bad none)) (BadStore place) refl)) refl
   offers-meet (m.sound-store sound (m.no_length h)) = past-store sound (refused (length lengths) (o.a-size h))
   offers-meet (m.sound-store sound (m.no_start h)) = past-store sound (refused (length starts) (o.a-position h))
   offers-meet {v} {n} {b} (m.sound-store sound (m.in-turn same ends left)) = past-lists sound same (rw left (goes-said ends))

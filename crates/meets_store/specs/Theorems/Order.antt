@@ -1,11 +1,10 @@
 -- Ticket 11: "if a list of offers within the limits is accepted as a whole from an empty store, then every reordering of it is accepted as a whole too, with
 -- the same intervals and marks stored".
-use Rattle.std.specs.Prelude.{◌≡◌, refl, true, ℕ, suc, ◌≤◌, ◌<◌, length, get_or}
+use Rattle.std.specs.Prelude.{◌≡◌, refl, true, ℕ, suc, ◌≤◌, ◌<◌, length, get_or, Err}
 use Rattle.std.proofs.Common.{sym, ap, ◌∙◌, arith}
 use mathlib.Core.List.{List, [], ◌∷◌, Permᴰ, tail}
 use Rattle.prelude.specs.Laws.Bools.{either, clash}
-use Rattle.prelude.specs.declared.Verdict.{Verdict}
-use Rattle.prelude.specs.declared.Verdict.TheVariants.{Accepted, Refused}
+use Rattle.prelude.specs.Verdict.{Verdict, Accepted}
 use Rattle.overlap_checker.specs.declared.Entry.{Entry}
 use Rattle.overlap_checker.specs.Interval.{interval}
 use Rattle.overlap_checker.specs.Entries.{entry_at}
@@ -25,9 +24,9 @@ use Rattle.meets_store.specs.Laws.Turns.{Turned, turned}
 
 yes : (v : Verdict) → is_accepted v ≡ true → v ≡ Accepted
 yes Accepted h = refl
-yes (Refused why) h = absurd (clash h refl)
+yes (Err why) h = absurd (clash h refl)
 
-accepted-few : (es : List Entry) (vs : List Verdict) → length (accepted_by es vs) ≤ length es
+accepted-few : (es : List Entry) (vs : List (Verdict)) → length (accepted_by es vs) ≤ length es
 unfolding accepted_by
 accepted-few [] vs = omega arith
 accepted-few (e ∷ es) [] = omega arith
@@ -35,7 +34,7 @@ accepted-few (e ∷ es) (v ∷ vs) =
     let rest = accepted-few es vs in
     either (is_accepted v) (λ t. rw t (omega arith)) (λ f. rw f (omega arith))
 
-whole : (a : Lent) (es : List Entry) (vs : List Verdict) (b : Lent) → CallsInTurn a es vs b → accepted_by es vs ≡ es → AllAccepted vs
+whole : (a : Lent) (es : List Entry) (vs : List (Verdict)) (b : Lent) → CallsInTurn a es vs b → accepted_by es vs ≡ es → AllAccepted vs
 unfolding accepted_by
 whole a [] [] b run same = tt
 whole a [] (v ∷ vs) b run same = absurd run
@@ -47,7 +46,7 @@ whole a (e ∷ es) (v ∷ vs) b run same =
     let n : length (accepted_by es vs) ≡ suc (length es) = ap length h in
     absurd (omega (arith, accepted-few es vs)))
 
-all-taken : (a : Lent) (es : List Entry) (vs : List Verdict) (b : Lent) → CallsInTurn a es vs b → AllAccepted vs → accepted_by es vs ≡ es
+all-taken : (a : Lent) (es : List Entry) (vs : List (Verdict)) (b : Lent) → CallsInTurn a es vs b → AllAccepted vs → accepted_by es vs ≡ es
 unfolding accepted_by
 all-taken a [] vs b run h = refl
 all-taken a (e ∷ es) [] b run h = absurd run

@@ -1,21 +1,19 @@
 -- `prog_convert`: its text meets the sentences, and they leave one.
-use Rattle.std.specs.Prelude.{◌≡◌, refl, Bool, true, false, List, [], ◌∷◌, ◌⊎◌, ℕ, ◌<◌, eqb, ltb, length, take, drop}
+use Rattle.std.specs.Prelude.{◌≡◌, refl, Bool, true, false, List, [], ◌∷◌, ◌⊎◌, ℕ, ◌<◌, eqb, ltb, length, take, drop, Result, Ok, Err}
 use Rattle.std.proofs.Common.{sym, ap, subst, ◌∙◌, inl, inr, arith, take_at, eqb-true}
 use Rattle.std.proofs.lemmas.Bool.{eqb-false}
+use Rattle.form_fields.specs.declared.Shape.{Shape}
 use Rattle.prelude.specs.Laws.Bools as bools
 use Rattle.prelude.specs.Limits.{max_nodes, max_rows}
 use Rattle.prelude.specs.Pick.{pick}
 use Rattle.prelude.specs.Refusals.{number_of, place_of}
 use Rattle.prelude.specs.Theorems.Told.{number-some}
-use Rattle.form_fields.specs.declared.Form as declared
-use Rattle.form_fields.specs.declared.Form.TheVariants.{Sound as SoundForm, Broken as BrokenForm}
+use Rattle.prelude.specs.declared.Refusal.{Refusal}
 use Rattle.form_fields.specs.Contents.{Contents, written}
 use Rattle.form_fields.specs.Kind.{form1, form2}
 use Rattle.form_fields.specs.Shape.{form_in}
 use Rattle.form_fields.specs.Whole.{Bytes, contents_in}
 use Rattle.form_convert.specs.Convert.{answer_of, answer_by, out_after}
-use Rattle.form_convert.specs.declared.Conversion.{Conversion}
-use Rattle.form_convert.specs.declared.Conversion.TheVariants.{Converted, Refused}
 use Rattle.c_answers.specs.Counts.{conversion_count}
 use Rattle.c_answers.specs.Told.{first_of}
 use Rattle.c_answers.specs.declared.DkCount.{DkCount}
@@ -44,19 +42,19 @@ module _ (f : Form) (file : List ℕ) where
   abbrev result : List ℕ
   result = written (kind (other f)) (turn f contents)
 
-  abbrev answer_in : ℕ → Conversion
+  abbrev answer_in : ℕ → Result ℕ Refusal
   answer_in room = answer_by (kind (other f)) (form_in (kind f) file) contents (turn f contents) (drops_of f contents) room
 
 -- ---- an answer that is given says the result's size, and a refusal's place is one number
 
-abbrev Plain : ℕ → Conversion → Type 0
-Plain size (Converted n) = n ≡ size
-Plain size (Refused why) = place_numbers (place_of why) ≡ first_of (place_of why) ∷ []
+abbrev Plain : ℕ → Result ℕ Refusal → Type 0
+Plain size (Ok n) = n ≡ size
+Plain size (Err why) = place_numbers (place_of why) ≡ first_of (place_of why) ∷ []
 
-record Sized (size : ℕ) (answer : Conversion) : Type 0 where
+record Sized (size : ℕ) (answer : Result ℕ Refusal) : Type 0 where
   is : Plain size answer
 
-either : {size : ℕ} (t : Bool) {x y : Conversion} → Sized size x → Sized size y → Sized size (pick t x y)
+either : {size : ℕ} (t : Bool) {x y : Result ℕ Refusal} → Sized size x → Sized size y → Sized size (pick t x y)
 either true a b = a
 either false a b = b
 
@@ -71,10 +69,10 @@ answer-sized nodes rows first count size longest drops room =
     (either (ltb room size) (record { is = refl }) (record { is = refl }))))))
 
 module _ (f : Form) (file : List ℕ) (small : Bytes file) where
-  sized : (room : ℕ) (g : declared.Form) → form_in (kind f) file ≡ g
+  sized : (room : ℕ) (g : Result Shape Refusal) → form_in (kind f) file ≡ g
       → Sized (length (result f file)) (answer_by (kind (other f)) g (contents f file) (turn f (contents f file)) (drops_of f (contents f file)) room)
-  sized room (BrokenForm why) e = record { is = let b = form-broken f file why e in rw b.refusal refl }
-  sized room (SoundForm s) e = answer-sized _ _ _ _ (length (result f file)) _ (drops_of f (contents f file)) room
+  sized room (Err why) e = record { is = let b = form-broken f file why e in rw b.refusal refl }
+  sized room (Ok s) e = answer-sized _ _ _ _ (length (result f file)) _ (drops_of f (contents f file)) room
 
   abbrev way_in : List ℕ
   way_in = printed (answer_in f file 65537) (result f file)
@@ -86,12 +84,12 @@ convert-text-meets asked file small =
     (λ t. rw t (says.converts (inl (eqb-true asked 1 t, refl)) (way-meets form-2)))
     (λ f. rw f (says.converts (inr (eqb-false asked 1 f, refl)) (way-meets form-1)))
   where
-    prints : (f : Form) (old : List ℕ) (a : Conversion) → Sized (length (result f file)) a
+    prints : (f : Form) (old : List ℕ) (a : Result ℕ Refusal) → Sized (length (result f file)) a
         → Prints (conversion_count a) (out_after a (result f file) old) (printed a (result f file))
-    prints f old (Converted n) s =
-        subst (Prints (conversion_count (Converted n)) (out_after (Converted n) (result f file) old))
+    prints f old (Ok n) s =
+        subst (Prints (conversion_count (Ok n)) (out_after (Ok n) (result f file) old))
         (take_at (result f file) (drop (length (result f file)) old) n (sym s.is)) (says.accepted refl)
-    prints f old (Refused why) s =
+    prints f old (Err why) s =
         says.refused (number-some why)
         (subst (λ (ns : List ℕ). Line (ascii "refused") (number_of why ∷ ns) (refusal_text why)) s.is
         (line-meets (ascii "refused") (number_of why ∷ place_numbers (place_of why))))

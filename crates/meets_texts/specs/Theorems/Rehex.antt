@@ -1,5 +1,5 @@
 -- `prog_rehex`: its text meets the sentences, and they leave one.
-use Rattle.std.specs.Prelude.{◌≡◌, refl, Bool, true, false, ◌&&◌, List, [], ◌∷◌, ◌++◌, ◌⊎◌, ℕ, zero, suc, ◌≤◌, ◌<◌, leb, ltb, eqb, length, get_or, take, drop, replicate}
+use Rattle.std.specs.Prelude.{◌≡◌, refl, Bool, true, false, ◌&&◌, List, [], ◌∷◌, ◌++◌, ◌⊎◌, ℕ, zero, suc, ◌≤◌, ◌<◌, leb, ltb, eqb, length, get_or, take, drop, replicate, Ok, Err, Result}
 use Rattle.std.proofs.Common.{sym, ap, ◌∙◌, inl, inr, arith, take_at}
 use Rattle.std.proofs.Math.Path.{subst}
 use borrow.Author.Tests.{le-leb, leb-true, leb-false, lt-ltb, eqb-true, eqb-false, eq-eqb}
@@ -11,10 +11,9 @@ use Rattle.prelude.specs.Theorems.Told.{number-some}
 use Rattle.prelude.specs.Told.{gives, refuses}
 use Rattle.prelude.specs.declared.Place.TheVariants.{One}
 use Rattle.prelude.specs.declared.Refusal.TheVariants.{Malformed, BadPart, TooShort}
+use Rattle.prelude.specs.declared.Refusal.{Refusal}
 use Rattle.bitvec.specs.Bits.{Bytes}
 use Rattle.blocks.specs.declared.Block.{Block}
-use Rattle.blocks.specs.declared.Blocks.{Blocks}
-use Rattle.blocks.specs.declared.Blocks.TheVariants.{Found, Refused as Unread}
 use Rattle.blocks.specs.Outcome.{ToldBy}
 use Rattle.record_scan.specs.Outcome.{fault_of}
 use Rattle.record_scan.specs.Reading.{Read, sound, faulty, read_text}
@@ -27,7 +26,6 @@ use Rattle.record_write.specs.Checks.{all_parts, all_placed}
 use Rattle.record_write.specs.Cut.{blocks_in}
 use Rattle.record_write.specs.Srec as srec
 use Rattle.record_write.specs.Text.{text_of}
-use Rattle.record_write.specs.declared.Written.TheVariants.{Length, Refused as Unwritten}
 use Rattle.thm_record_room.specs.Laws.Calls.{blocks-in}
 use Rattle.thm_record_room.specs.Records.{format_ok, records_or}
 use Rattle.thm_record_room.specs.Theorems.Room.{turned-files-fit}
@@ -80,7 +78,7 @@ module _ (text old : List ℕ) where
   abbrev by_tests : (p q f : Bool) → write.Outcome
   by_tests p q f =
       record {
-        answer = written_count (pick p (pick q (pick f (Length (length text)) (Unwritten (TooShort 3))) (Unwritten (Malformed 0))) (Unwritten BadPart));
+        answer = written_count (pick p (pick q (pick f (Ok (length text)) (Err (TooShort 3))) (Err (Malformed 0))) (Err BadPart));
         text = pick (p && q && f) (text ++ drop (length text) old) old;
       }
 
@@ -145,11 +143,11 @@ module _ (g : Given) (good : Bytes g.image) (paired : length g.offsets ≡ lengt
 -- ---- the call that reads
 
 -- a refusal's place is one number
-abbrev pub Plain : Blocks → Type 0
-Plain (Found n) = Unit {0}
-Plain (Unread why) = place_numbers (place_of why) ≡ first_of (place_of why) ∷ []
+abbrev pub Plain : Result ℕ Refusal → Type 0
+Plain (Ok n) = Unit {0}
+Plain (Err why) = place_numbers (place_of why) ≡ first_of (place_of why) ∷ []
 
-pub record Placed (r : Blocks) : Type 0 where
+pub record Placed (r : Result ℕ Refusal) : Type 0 where
   pub is : Plain r
 
 module _ (load : ℕ) (l : records.Lent) where
@@ -157,7 +155,7 @@ module _ (load : ℕ) (l : records.Lent) where
   plain (faulty n) = record { is = refl }
   plain (sound ps) = by (bytes_fit load ps l) (blocks_fit load ps l)
     where
-      by : (p q : Bool) → Placed (pick p (pick q (Found (length (blocks_given load ps))) (Unread (TooShort 2))) (Unread (TooShort 0)))
+      by : (p q : Bool) → Placed (pick p (pick q (Ok (length (blocks_given load ps))) (Err (TooShort 2))) (Err (TooShort 0)))
       by true true = record { is = tt }
       by true false = record { is = refl }
       by false q = record { is = refl }
@@ -166,7 +164,7 @@ module _ (load : ℕ) (l : records.Lent) where
   figured (faulty n) = refl
   figured (sound ps) = by (bytes_fit load ps l) (blocks_fit load ps l)
     where
-      by : (p q : Bool) → ToldBy (pick p (pick q (Found (length (blocks_given load ps))) (Unread (TooShort 2))) (Unread (TooShort 0)))
+      by : (p q : Bool) → ToldBy (pick p (pick q (Ok (length (blocks_given load ps))) (Err (TooShort 2))) (Err (TooShort 0)))
           ≡ pick p (pick q (gives (length (blocks_given load ps))) (refuses 14 (One 2))) (refuses 14 (One 0))
       by true true = refl
       by true false = refl
@@ -192,7 +190,7 @@ module _ (k format load : ℕ) (known : k < 2) (source : List ℕ) where
     abbrev l : records.Lent
     l = lent old.bytes old.offsets old.sizes old.scratch
 
-    abbrev r : Blocks
+    abbrev r : Result ℕ Refusal
     r = answer_of load l said
 
     abbrev new : records.Lent
@@ -209,7 +207,7 @@ module _ (k format load : ℕ) (known : k < 2) (source : List ℕ) where
     reads : Reads load said l r new
     reads = record { answer = refl; figures = figured load l said; after = refl }
 
-    module _ (n : ℕ) (e : r ≡ Found n) where
+    module _ (n : ℕ) (e : r ≡ Ok n) where
       h : Held load l said n new
       h = held load l said r new reads n e
 
@@ -242,19 +240,19 @@ module _ (k format load : ℕ) (known : k < 2) (source : List ℕ) where
             lends.text,
           )
 
-      found-turns : Turns format load (line_told (fault_of said)) out (record { answer = blocks_count (Found n); lent = left })
+      found-turns : Turns format load (line_told (fault_of said)) out (record { answer = blocks_count (Ok n); lent = left })
           (turned format load old.bytes said)
       found-turns =
           let d = done g good (firsts ∙ sym seconds) out fits format in
-          subst (Turns format load (line_told (fault_of said)) out (record { answer = blocks_count (Found n); lent = left }))
+          subst (Turns format load (line_told (fault_of said)) out (record { answer = blocks_count (Ok n); lent = left }))
           (text-is k format load source l lends.bytes.0 lends.blocks.0 lends.blocks.1 r new reads n e)
           (says.written refl d.1 d.2)
 
-    turns-by : (x : Blocks) → r ≡ x → Placed x
+    turns-by : (x : Result ℕ Refusal) → r ≡ x → Placed x
         → Turns format load (line_told (fault_of said)) out (record { answer = blocks_count x; lent = left }) (turned format load old.bytes said)
-    turns-by (Found n) e p = found-turns n e
-    turns-by (Unread why) e p =
-        subst (Turns format load (line_told (fault_of said)) out (record { answer = blocks_count (Unread why); lent = left }))
+    turns-by (Ok n) e p = found-turns n e
+    turns-by (Err why) e p =
+        subst (Turns format load (line_told (fault_of said)) out (record { answer = blocks_count (Err why); lent = left }))
         (sym (unread format load l lends.bytes.0 lends.blocks.0 lends.blocks.1 reads e))
         (says.unread (number-some why)
         (subst (λ (ns : List ℕ). Line (ascii "refused") (number_of why ∷ ns) (refusal_text why)) p.is

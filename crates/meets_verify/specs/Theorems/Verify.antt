@@ -1,14 +1,13 @@
 -- `dk_verify`: by its contract it says the sentences (`verify-meets`), they leave one outcome, the answer and all three lists lent for it (`verify-decides`),
 -- and no run is listed exactly where every byte that is asked for is given with its value (`same-exactly`).
-use Rattle.std.specs.Prelude.{◌≡◌, refl, Bool, true, false, List, [], ◌∷◌, ◌⊎◌, ◌↔◌, ℕ, ◌+◌, ◌≤◌, ◌<◌, leb, length, get_or}
+use Rattle.std.specs.Prelude.{◌≡◌, refl, Bool, true, false, List, [], ◌∷◌, ◌⊎◌, ◌↔◌, ℕ, ◌+◌, ◌≤◌, ◌<◌, leb, length, get_or, Err, Ok, Result}
 use Rattle.std.proofs.Common.{sym, ap, subst, ◌∙◌, inl, inr, ⊎_elim, arith, leb-true, leb-false}
 use Rattle.std.proofs.lemmas.List.{length-map}
 use Rattle.prelude.specs.Pick.{pick}
 use Rattle.prelude.specs.declared.Refusal.TheVariants.{Malformed, BadPart as Unfit, TooShort as Short}
+use Rattle.prelude.specs.declared.Refusal.{Refusal}
 use Rattle.blocks.specs.Outcome.{over}
 use Rattle.overlay.specs.Order.{in_order}
-use Rattle.overlay.specs.declared.Listed.{Listed as Answer}
-use Rattle.overlay.specs.declared.Listed.TheVariants.{Runs as Counted, Refused}
 use Rattle.verify.specs.Whole.{all_whole, Sound}
 use Rattle.verify.specs.Laws.Whole.{sound-from}
 use Rattle.verify.specs.Put.{firsts, counts, kinds}
@@ -133,11 +132,11 @@ module _ (image os ss bytes gos gss : List ℕ) where
 
     module _ (e : in_order 0 os ss ≡ true) (f : in_order 0 gos gss ≡ true) (g : all_whole (length image) os ss ≡ true)
         (h : all_whole (length bytes) gos gss ≡ true) where
-      short : (length fs₀ < n) ⊎ ((length cs₀ < n) ⊎ (length ks₀ < n)) → Says (listed_count (Refused (Short 2))) fs₀ cs₀ ks₀
+      short : (length fs₀ < n) ⊎ ((length cs₀ < n) ⊎ (length ks₀ < n)) → Says (listed_count (Err (Short 2))) fs₀ cs₀ ks₀
       short s = passed (λ _. no-bad e f) (passed (λ _. no_part e f g h) (says.lists (runs e f g h) (refused tt (rw (many.0, many.1, many.2) s))))
 
       enough : n ≤ length fs₀ → n ≤ length cs₀ → n ≤ length ks₀
-          → Says (listed_count (Counted n)) (over (firsts (runs_of t)) fs₀) (over (counts (runs_of t)) cs₀) (over (kinds (runs_of t)) ks₀)
+          → Says (listed_count (Ok n)) (over (firsts (runs_of t)) fs₀) (over (counts (runs_of t)) cs₀) (over (kinds (runs_of t)) ks₀)
       enough p q r =
           passed (λ _. no-bad e f) (passed (λ _. no_part e f g h) (says.lists (runs e f g h)
           (passed (λ _ s. ⊎_elim (λ l. omega (arith, many.0)) (λ s. ⊎_elim (λ l. omega (arith, many.1)) (λ l. omega (arith, many.2)) s) s)
@@ -152,8 +151,8 @@ module _ (image os ss bytes gos gss : List ℕ) where
 
     answered : (a b c d x y z : Bool) → in_order 0 os ss ≡ a → in_order 0 gos gss ≡ b → all_whole (length image) os ss ≡ c → all_whole (length bytes) gos gss ≡ d
         → leb n (length fs₀) ≡ x → leb n (length cs₀) ≡ y → leb n (length ks₀) ≡ z
-        → Says (listed_count (pick (pick a b false) (pick (pick c d false) (pick (pick x (pick y z false) false) (Counted n) (Refused (Short 2)))
-        (Refused Unfit)) (Refused (Malformed 0))))
+        → Says (listed_count (pick (pick a b false) (pick (pick c d false) (pick (pick x (pick y z false) false) (Ok n) (Err (Short 2)))
+        (Err Unfit)) (Err (Malformed 0))))
         (pick (pick a b false) (pick (pick c d false) (pick (pick x (pick y z false) false) (over (firsts (runs_of t)) fs₀) fs₀) fs₀) fs₀)
         (pick (pick a b false) (pick (pick c d false) (pick (pick x (pick y z false) false) (over (counts (runs_of t)) cs₀) cs₀) cs₀) cs₀)
         (pick (pick a b false) (pick (pick c d false) (pick (pick x (pick y z false) false) (over (kinds (runs_of t)) ks₀) ks₀) ks₀) ks₀)
@@ -168,7 +167,7 @@ module _ (image os ss bytes gos gss : List ℕ) where
     answered true true true true true true true e f g h i j k =
         enough e f g h (leb-true n (length fs₀) i) (leb-true n (length cs₀) j) (leb-true n (length ks₀) k)
 
-    pub verify-meets : (r : DkCount) (l : Answer) (fs₁ cs₁ ks₁ : List ℕ) → r ≡ listed_count l → model.Lists t fs₀ cs₀ ks₀ l fs₁ cs₁ ks₁ → Says r fs₁ cs₁ ks₁
+    pub verify-meets : (r : DkCount) (l : Result ℕ Refusal) (fs₁ cs₁ ks₁ : List ℕ) → r ≡ listed_count l → model.Lists t fs₀ cs₀ ks₀ l fs₁ cs₁ ks₁ → Says r fs₁ cs₁ ks₁
     verify-meets r l fs₁ cs₁ ks₁ e c =
         rw (e, c.answer, c.first, c.second, c.third)
         (answered (in_order 0 os ss) (in_order 0 gos gss) (all_whole (length image) os ss) (all_whole (length bytes) gos gss) (leb n (length fs₀))

@@ -1,16 +1,15 @@
 -- Laws that Theorems/Sound rests on.
-use Rattle.std.specs.Prelude.{◌≡◌, refl, Bool, true, false, ◌||◌}
+use Rattle.std.specs.Prelude.{◌≡◌, refl, Bool, true, false, ◌||◌, Err}
 use Rattle.prelude.specs.Pick.{pick}
 use Rattle.prelude.specs.declared.Refusal.{Refusal}
-use Rattle.prelude.specs.declared.Verdict.{Verdict}
-use Rattle.prelude.specs.declared.Verdict.TheVariants.{Accepted, Refused}
+use Rattle.prelude.specs.Verdict.{Verdict, Accepted}
 use Rattle.nodes.specs.Lists.{first_of}
 
 pub both-accept : (v w : Verdict) → first_of v w ≡ Accepted → (v ≡ Accepted) × (w ≡ Accepted)
 both-accept Accepted w e = (refl, e)
-both-accept (Refused why) w e = (e, cc)
+both-accept (Err why) w e = (e, cc)
 
-pub none-taken : (t : Bool) (why : Refusal) → pick t (Refused why) Accepted ≡ Accepted → t ≡ false
+pub none-taken : (t : Bool) (why : Refusal) → pick t (Err why) Accepted ≡ Accepted → t ≡ false
 none-taken true why e = cc
 none-taken false why e = refl
 
@@ -21,6 +20,6 @@ both_false false b e = (refl, e)
 -- ---- what the accepted lists are
 
 -- a verdict that accepts came through its test
-pub through : (t : Bool) (v : Verdict) (why : Refusal) → pick t v (Refused why) ≡ Accepted → (t ≡ true) × (v ≡ Accepted)
+pub through : (t : Bool) (v : Verdict) (why : Refusal) → pick t v (Err why) ≡ Accepted → (t ≡ true) × (v ≡ Accepted)
 through true v why e = (refl, e)
 through false v why e = (cc, cc)

@@ -2,7 +2,7 @@
 use Prim.Native.Nat.{ℕ, zero, suc, ◌*◌, ◌<◌}
 use Rattle.std.proofs.Math.Path.{◌≡◌, refl}
 use Rattle.std.proofs.Common.{sym, subst, ◌∙◌, eq-or-lt_of_le, le_of_suc-le-suc, leb-true, eqb-true, le-leb}
-use Rattle.std.specs.Prelude.{Bool, false, ◌&&◌, leb, eqb, length}
+use Rattle.std.specs.Prelude.{Bool, false, ◌&&◌, leb, eqb, length, Err}
 use Rattle.std.proofs.Math.Bool.{true}
 use Rattle.std.proofs.Math.Logic.{⊎_elim}
 use native.Mathlib.Omega.{arith}
@@ -11,9 +11,8 @@ use Rattle.prelude.specs.Limits.{max_nodes, max_rows}
 use Rattle.prelude.specs.Pick.{pick}
 use Rattle.prelude.specs.declared.Refusal.{Refusal}
 use Rattle.prelude.specs.declared.Refusal.TheVariants.{Malformed}
-use Rattle.prelude.specs.declared.Verdict.{Verdict}
-use Rattle.prelude.specs.declared.Verdict.TheVariants.{Accepted, Refused}
 use Rattle.prelude.specs.Laws.Bools.{both}
+use Rattle.prelude.specs.Verdict.{Accepted, Verdict}
 use Rattle.nodes.specs.Lists.{Lists, Rows, known_fill, lists_of, node_of}
 use Rattle.nodes.specs.Lists.{row_fault, head_fault, any_row_fault, node_fault, first_of, nodes_to}
 use Rattle.nodes.specs.Laws.Sound.{both-accept, both_false, none-taken, through}
@@ -25,7 +24,7 @@ module _ (banks : ℕ) (l : Lists) where
   unfolding nodes_to
   accepted-node zero e i h = absurd (let b : ⊥ = omega arith in b)
   accepted-node (suc n) e i h =
-      let v = both-accept (nodes_to banks l n) (pick (node_fault banks l n) (Refused (Malformed n)) Accepted) e in
+      let v = both-accept (nodes_to banks l n) (pick (node_fault banks l n) (Err (Malformed n)) Accepted) e in
       ⊎_elim (λ (q : i ≡ n). rw q (none-taken (node_fault banks l n) (Malformed n) v.1)) (λ (g : i < n). accepted-node n v.0 i g)
       (eq-or-lt_of_le (le_of_suc-le-suc h))
 
@@ -47,19 +46,19 @@ module _ (banks : ℕ) (l : Lists) where
   later : {n i : ℕ} → (Lowest banks l) n i → (Lowest banks l) (suc n) i
   later a = record { listed = omega (arith, a.listed); fault = a.fault; none = a.none }
 
-  taken_at : (n : ℕ) (t : Bool) {why : Refusal} → pick t (Refused (Malformed n)) Accepted ≡ Refused why → (t ≡ true) × (why ≡ Malformed n)
+  taken_at : (n : ℕ) (t : Bool) {why : Refusal} → pick t (Err (Malformed n)) Accepted ≡ Err why → (t ≡ true) × (why ≡ Malformed n)
   taken_at n true e = (refl, cc)
   taken_at n false e = (cc, cc)
 
-  lowest-of : (n : ℕ) (why : Refusal) (v : Verdict) → nodes_to banks l n ≡ v → (v ≡ Refused why → (i : ℕ) × (Lowest banks l) n i × (why ≡ Malformed i))
-      → first_of v (pick (node_fault banks l n) (Refused (Malformed n)) Accepted) ≡ Refused why → (i : ℕ) × (Lowest banks l) (suc n) i × (why ≡ Malformed i)
+  lowest-of : (n : ℕ) (why : Refusal) (v : Verdict) → nodes_to banks l n ≡ v → (v ≡ Err why → (i : ℕ) × (Lowest banks l) n i × (why ≡ Malformed i))
+      → first_of v (pick (node_fault banks l n) (Err (Malformed n)) Accepted) ≡ Err why → (i : ℕ) × (Lowest banks l) (suc n) i × (why ≡ Malformed i)
   lowest-of n why Accepted f rest e =
       let w = taken_at n (node_fault banks l n) e in
       (n, record { listed = omega arith; fault = w.0; none = accepted-node n f }, w.1)
-  lowest-of n why (Refused x) f rest e = let a = rest e in (a.0, later a.1, a.2)
+  lowest-of n why (Err x) f rest e = let a = rest e in (a.0, later a.1, a.2)
 
   -- "then the lowest node"
-  pub lowest-node : (n : ℕ) (why : Refusal) → nodes_to banks l n ≡ Refused why → (i : ℕ) × (Lowest banks l) n i × (why ≡ Malformed i)
+  pub lowest-node : (n : ℕ) (why : Refusal) → nodes_to banks l n ≡ Err why → (i : ℕ) × (Lowest banks l) n i × (why ≡ Malformed i)
   unfolding nodes_to
   lowest-node zero why e = absurd (let z : ◌≡◌ {A = ℕ} 0 1 = cc in let b : ⊥ = omega arith in b)
   lowest-node (suc n) why e = lowest-of n why (nodes_to banks l n) refl (lowest-node n why) e
@@ -71,7 +70,7 @@ module _ (banks : ℕ) (l : Lists) where
   none-refused (suc n) all = rw (none-refused n (λ i h. all i (omega arith)), all n (omega arith))
 
   -- and the lowest at fault is the one that is
-  pub lowest-refused : (n i : ℕ) → (Lowest banks l) n i → nodes_to banks l n ≡ Refused (Malformed i)
+  pub lowest-refused : (n i : ℕ) → (Lowest banks l) n i → nodes_to banks l n ≡ Err (Malformed i)
   unfolding nodes_to
   lowest-refused zero i a = absurd (let h = a.listed in let b : ⊥ = omega arith in b)
   lowest-refused (suc n) i a =
@@ -106,8 +105,8 @@ accepted-lists banks l fill e =
     let numbered = eqb (length l.numbers) (l.rows * n) in
     let stated = eqb (length l.states) (l.rows * n) in
     let counts = leb 1 l.rows && (leb l.rows max_rows && (numbered && stated)) in
-    let chosen = pick (known_fill fill) (nodes_to banks l n) (Refused (Malformed 3)) in
-    let a = through (leb n max_nodes && fits) (pick counts chosen (Refused (Malformed 1))) (Malformed 0) e in
+    let chosen = pick (known_fill fill) (nodes_to banks l n) (Err (Malformed 3)) in
+    let a = through (leb n max_nodes && fits) (pick counts chosen (Err (Malformed 1))) (Malformed 0) e in
     let b = through counts chosen (Malformed 1) a.1 in
     let h = through (known_fill fill) (nodes_to banks l n) (Malformed 3) b.1 in
     let c = both (leb n max_nodes) fits a.0 in

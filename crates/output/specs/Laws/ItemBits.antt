@@ -1,13 +1,11 @@
 -- Laws that Theorems/ItemBits rests on.
-use Rattle.std.specs.Prelude.{◌≡◌, refl, Bool, true, false, ℕ}
+use Rattle.std.specs.Prelude.{◌≡◌, refl, Bool, true, false, ℕ, Option, None, Some}
 use Rattle.std.proofs.Common.{sym, subst}
 use mathlib.Core.List.Memᴰ
 use mathlib.Core.List.{List, [], Memᴰ}
 use Rattle.prelude.specs.Laws.Bools.{or_left}
 use Rattle.prelude.specs.Pick.{pick}
 use Rattle.prelude.specs.Laws.Pick.{pick_true}
-use Rattle.prelude.specs.declared.Offset.{Offset}
-use Rattle.prelude.specs.declared.Offset.TheVariants.{None as Nowhere, At as Out}
 use Rattle.nodes.specs.declared.Node.{Node}
 use Rattle.blocks.specs.Bits.{NoSharedBit}
 use Rattle.overlap_checker.specs.declared.Entry.{Entry}
@@ -23,10 +21,10 @@ use Rattle.build_plan.specs.PlacingLaws.{OfferedBit}
 pub offered : (v : Visit) {e : Entry} → is_offered v.node ≡ true → Memᴰ e (bits_at v.out v.node) → Memᴰ e (offer_of v)
 offered v {e} o m = subst (λ (l : List Entry). Memᴰ e l) (sym (pick_true (bits_at v.out v.node) [] o)) m
 
-standing-bits : (out : Offset) (n : Node) (bit : ℕ) (x : Item) → Memᴰ x (standing out n) → InItem bit x
+standing-bits : (out : Option ℕ) (n : Node) (bit : ℕ) (x : Item) → Memᴰ x (standing out n) → InItem bit x
     → (e : Entry) × Memᴰ e (bits_at out n) × Covers e bit
-standing-bits Nowhere n bit x m i = absurd (Memᴰ.not-nil m)
-standing-bits (Out o) n bit x m i = (_, Memᴰ.head refl, subst (λ (y : Item). InItem bit y) (Memᴰ.eq_of_singleton m) i)
+standing-bits None n bit x m i = absurd (Memᴰ.not-nil m)
+standing-bits (Some o) n bit x m i = (_, Memᴰ.head refl, subst (λ (y : Item). InItem bit y) (Memᴰ.eq_of_singleton m) i)
 
 pub item-offered : (bit : ℕ) (v : Visit) (x : Item) → Memᴰ x (item_of v) → InItem bit x → OfferedBit bit v
 item-offered bit v x m i =
@@ -37,7 +35,7 @@ item-offered bit v x m i =
 pub one-item : (v : Visit) → NoSharedBit InItem (item_of v)
 one-item v = go v.out (is_written v.node)
   where
-    go : (out : Offset) (b : Bool) → NoSharedBit InItem (pick b (standing out v.node) [])
-    go Nowhere true = tt
-    go Nowhere false = tt
-    go (Out o) b = apart-one InItem b _
+    go : (out : Option ℕ) (b : Bool) → NoSharedBit InItem (pick b (standing out v.node) [])
+    go None true = tt
+    go None false = tt
+    go (Some o) b = apart-one InItem b _

@@ -1,23 +1,22 @@
 -- Laws that Theorems/RaisedLimit rests on.
-use Rattle.std.specs.Prelude.{ℕ, ◌<◌, ◌≡◌, refl}
+use Rattle.std.specs.Prelude.{ℕ, ◌<◌, ◌≡◌, refl, Result, Ok, Err}
 use Rattle.std.proofs.Common.{sym, ◌∙◌}
 use Rattle.std.proofs.Math.Path.{ap}
+use Rattle.prelude.specs.declared.Refusal.{Refusal}
 use Rattle.resolver.specs.Layout.{layout_of}
 use Rattle.resolver.specs.Passes.{program, row_of_pass}
 use Rattle.resolver.proofs.RaisedLimit.{same-for-limits-above}
 use Rattle.resolver.specs.declared.Resolution.{Resolution}
-use Rattle.resolver.specs.declared.Settled.{Settled}
-use Rattle.resolver.specs.declared.Settled.TheVariants.{At, Refused as Unsettled}
 use Rattle.output.specs.Output.{Input, Lent, Room, room_of, output_of, visits_of, settled_build, settled_of, build_of, left_by, Builds}
 use Rattle.output.specs.declared.Output.{Output}
 use Rattle.output.specs.RaisedLimit.{with_limit}
 
 -- what a build makes of the passes does not read the limit
-same-of-passes : (b : Input) (n : ℕ) (room : Room) (passes : ℕ) (s : Settled) → settled_build (with_limit b n) room passes s ≡ settled_build b room passes s
-same-of-passes b n room passes (At k) = refl
-same-of-passes b n room passes (Unsettled why) = refl
+same-of-passes : (b : Input) (n : ℕ) (room : Room) (passes : ℕ) (s : Result ℕ Refusal) → settled_build (with_limit b n) room passes s ≡ settled_build b room passes s
+same-of-passes b n room passes (Ok k) = refl
+same-of-passes b n room passes (Err why) = refl
 
-module _ (b : Input) (k : ℕ) (accepted : settled_of b ≡ At k) (below : k < b.choices.limit) (n : ℕ) (more : k < n) where
+module _ (b : Input) (k : ℕ) (accepted : settled_of b ≡ Ok k) (below : k < b.choices.limit) (n : ℕ) (more : k < n) where
   -- one answer: the build or its refusal, K, the passes run and each bank's padding
   pub same-build-above : (room : Room) → build_of (with_limit b n) room ≡ build_of b room
   unfolding build_of

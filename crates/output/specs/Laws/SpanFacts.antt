@@ -1,5 +1,5 @@
 -- Laws that Theorems/SpanFacts rests on.
-use Rattle.std.specs.Prelude.{◌≡◌, Bool, true, false, ◌⊎◌, eqb, get_or}
+use Rattle.std.specs.Prelude.{Some, ◌≡◌, Bool, true, false, ◌⊎◌, eqb, get_or, Option, None}
 use Rattle.std.proofs.Math.Path.{refl, ap}
 use Rattle.std.proofs.Common.{sym, subst, ◌∙◌, ⊎_elim, arith, eqb-true, length-append}
 use mathlib.Core.List.{List, [], ◌∷◌, ◌++◌, map, append_assoc, Memᴰ}
@@ -8,8 +8,6 @@ use Rattle.std.proofs.Math.ListN.{length}
 use Rattle.prelude.specs.Laws.Bools.{or-told}
 use Rattle.prelude.specs.Pick.{pick}
 use Rattle.prelude.specs.Laws.Pick.{pick_true, pick-false}
-use Rattle.prelude.specs.declared.Offset.{Offset}
-use Rattle.prelude.specs.declared.Offset.TheVariants.{None as Nowhere, At as Out}
 use Rattle.iter.specs.Address.{units_from, address_of}
 use Rattle.iter.specs.Distance.{tellable}
 use Rattle.nodes.specs.Kinds.{size_of}
@@ -21,7 +19,7 @@ use Rattle.overlap_checker.specs.Interval.{Covers}
 use Rattle.blocks.specs.Offsets.{offset_of, word_of, no_offset}
 use Rattle.blocks.specs.Spans.{spans_of as spans_lent}
 use Rattle.blocks.specs.Spans as blocks-spans
-use Rattle.blocks.specs.Bits.{InPlaced, InSpan, Some, NoSharedBit}
+use Rattle.blocks.specs.Bits.{InPlaced, InSpan, SomeElement, NoSharedBit}
 use Rattle.build_visits.specs.declared.Visit.{Visit}
 use Rattle.build_visits.specs.Visits.{visits_to}
 use Rattle.build_visits.specs.Laws.VisitLaws.{visits-split, each_append, each_next}
@@ -85,13 +83,13 @@ label-or-written : (n : Node) → is_span n ≡ true → (eqb n.kind 2 ≡ true)
 label-or-written n e = or-told (eqb n.kind 2) (is_written n) e
 
 -- an empty span has no bit
-empty-none : (bit : ℕ) (o : Offset) (size : ℕ) → size ≡ 0 → InPlaced bit o size → ⊥
-empty-none bit Nowhere size e i = i
-empty-none bit (Out o) size e i = omega (arith, i.0, i.1)
+empty-none : (bit : ℕ) (o : Option ℕ) (size : ℕ) → size ≡ 0 → InPlaced bit o size → ⊥
+empty-none bit None size e i = i
+empty-none bit (Some o) size e i = omega (arith, i.0, i.1)
 
-placed-bits : (bit : ℕ) (out : Offset) (n : Node) → InPlaced bit out n.number → (e : Entry) × Memᴰ e (bits_at out n) × Covers e bit
-placed-bits bit Nowhere n i = absurd i
-placed-bits bit (Out o) n i = (_, mathlib.Core.List.Memᴰ.head refl, i)
+placed-bits : (bit : ℕ) (out : Option ℕ) (n : Node) → InPlaced bit out n.number → (e : Entry) × Memᴰ e (bits_at out n) × Covers e bit
+placed-bits bit None n i = absurd i
+placed-bits bit (Some o) n i = (_, mathlib.Core.List.Memᴰ.head refl, i)
 
 offers-written : (v : Visit) {e : Entry} → is_written v.node ≡ true → Memᴰ e (bits_at v.out v.node) → Memᴰ e (offer_of v)
 offers-written v {e} w m =
@@ -113,15 +111,15 @@ span-offered bit v x m i =
     (label-or-written v.node s)
 
 -- spans as they are lent, in words
-word_back : (bit : ℕ) (o : Offset) (size : ℕ) → InPlaced bit (offset_of (word_of o)) size → InPlaced bit o size
-word_back bit Nowhere size i = i
-word_back bit (Out o) size i = or-told (eqb o no_offset) i
+word_back : (bit : ℕ) (o : Option ℕ) (size : ℕ) → InPlaced bit (offset_of (word_of o)) size → InPlaced bit o size
+word_back bit None size i = i
+word_back bit (Some o) size i = or-told (eqb o no_offset) i
   where
-    or-told : (t : Bool) → InPlaced bit (pick t Nowhere (Out o)) size → InPlaced bit (Out o) size
+    or-told : (t : Bool) → InPlaced bit (pick t None (Some o)) size → InPlaced bit (Some o) size
     or-told true h = absurd h
     or-told false h = h
 
-lent-some : (bit : ℕ) (l : List Span) → Some (InSpan bit) (spans_lent (words l) (sizes l)) → Some (InShown bit) l
+lent-some : (bit : ℕ) (l : List Span) → SomeElement (InSpan bit) (spans_lent (words l) (sizes l)) → SomeElement (InShown bit) l
 unfolding spans_lent
 lent-some bit [] s = absurd (mathlib.Core.List.Memᴰ.not-nil s.1)
 lent-some bit (x ∷ l) s =

@@ -1,14 +1,11 @@
 -- Theorems about what OffersWithin defines.
-use Rattle.std.specs.Prelude.{ℕ, ◌≤◌, ◌≡◌, refl, Bool}
+use Rattle.std.specs.Prelude.{ℕ, ◌≤◌, ◌≡◌, refl, Bool, Ok, Result, Option, Some, None}
 use Rattle.std.proofs.Common.{sym, ap, subst, ◌∙◌, arith}
 use mathlib.Core.List.Memᴰ
 use mathlib.Core.List.{Memᴰ}
 use Rattle.prelude.specs.Limits.{max_position}
-use Rattle.prelude.specs.declared.Opt.{Opt}
-use Rattle.prelude.specs.declared.Opt.TheVariants.{None, Some}
+use Rattle.prelude.specs.declared.Refusal.{Refusal}
 use Rattle.iter.specs.Address.{out_at}
-use Rattle.iter.specs.declared.Moved.{Moved}
-use Rattle.iter.specs.declared.Moved.TheVariants.{To}
 use Rattle.iter.specs.declared.Pos.{Pos}
 use Rattle.nodes.specs.Lists.{Row}
 use Rattle.resolver.specs.Once.{Program, node, bank_of, walk_to}
@@ -27,17 +24,17 @@ use Rattle.output.specs.OffersWithin.{OffsetsFit}
 
 module _ (p : Program) (row : Row) (fits : OffsetsFit p.banks) where
   -- the offer of a node that sees a position
-  offer-within : (j : ℕ) (at : Pos) → (visit_at p row j).seen ≡ To at → (e : Entry) → Memᴰ e (offer_of (visit_at p row j)) → Within e
+  offer-within : (j : ℕ) (at : Pos) → (visit_at p row j).seen ≡ Ok at → (e : Entry) → Memᴰ e (offer_of (visit_at p row j)) → Within e
   offer-within j at sees e m =
       let n = node p row j in
       let def = bank_of p.banks (walk_to p row j) n in
       let picked = picked-some (is_offered n) (bits_at (visit_at p row j).out n) m in
       let kind = (offered-exactly n).0 picked.0 in
       let ends = step-within def n kind.0 kind.1 (walk_to p row j) at sees in
-      let here : position_of (visit_at p row j) ≡ at.position = ap (λ (x : Moved). (seen_pos x).position) sees in
+      let here : position_of (visit_at p row j) ≡ at.position = ap (λ (x : Result Pos Refusal). (seen_pos x).position) sees in
       placed def.offset (fits _) (position_of (visit_at p row j)) (omega (arith, ends, here)) (omega (arith, ends)) picked.1
     where
-      placed : (o : Opt) → ((offset : ℕ) → o ≡ Some offset → offset ≤ max_position) → (at : ℕ) → at ≤ max_position → (node p row j).number ≤ max_position
+      placed : (o : Option ℕ) → ((offset : ℕ) → o ≡ Some offset → offset ≤ max_position) → (at : ℕ) → at ≤ max_position → (node p row j).number ≤ max_position
           → Memᴰ e (bits_at (out_at o at) (node p row j)) → Within e
       placed None low at b s k = absurd (Memᴰ.not-nil k)
       placed (Some offset) low at b s k =

@@ -1,11 +1,11 @@
 -- Laws that Theorems/Answers rests on.
-use Rattle.std.specs.Prelude.{◌≡◌, true, false, ℕ, ◌≤◌, ◌<◌}
+use Rattle.std.specs.Prelude.{◌≡◌, true, false, ℕ, ◌≤◌, ◌<◌, Err}
 use Rattle.std.proofs.Common.{arith, lt-ltb, le-ltb, le-leb}
 use Rattle.std.proofs.lemmas.Bool.{lt-leb}
 use Rattle.prelude.specs.Laws.Bools.{unlike}
 use Rattle.prelude.specs.Limits.{max_stored}
 use Rattle.prelude.specs.declared.Refusal.{Refusal}
-use Rattle.prelude.specs.declared.Verdict.TheVariants.{Accepted, Refused}
+use Rattle.prelude.specs.Verdict.{Accepted}
 use Rattle.overlap_checker.specs.Offers.{lacks_room}
 
 -- ---- room
@@ -28,5 +28,5 @@ module _ (intervals marks size : ℕ) where
   no-mark-room z h = rw (le-ltb 0 size (omega arith)) (le-leb max_stored marks h)
 
 -- accepted is not refused
-pub not-both : {r : Refusal} → Accepted ≡ Refused r → ⊥
+pub not-both : {r : Refusal} → Accepted ≡ Err r → ⊥
 not-both e = unlike cc

@@ -1,5 +1,5 @@
 -- The three ways that an offer goes, and what each leaves in the store: laws of `tries`, `answer`, `keeping` and `after`.
-use Rattle.std.specs.Prelude.{◌≡◌, ◌⊎◌, Bool, true, false, ℕ, ◌<◌, length}
+use Rattle.std.specs.Prelude.{◌≡◌, ◌⊎◌, Bool, true, false, ℕ, ◌<◌, length, Err}
 use Rattle.std.proofs.Common.{sym, ◌∙◌, arith, lt-ltb, le-ltb, subst, true≢false}
 use Rattle.std.proofs.Math.Path.{ap}
 use Rattle.std.proofs.Math.Logic.{inl, inr, ⊎_elim}
@@ -10,7 +10,7 @@ use Rattle.prelude.specs.Laws.Pick.{pick_true, pick-false}
 use Rattle.prelude.specs.Told.{told_verdict}
 use Rattle.prelude.specs.declared.Refusal.{Refusal}
 use Rattle.prelude.specs.declared.Refusal.TheVariants.{Overlap, StoreFull}
-use Rattle.prelude.specs.declared.Verdict.TheVariants.{Accepted, Refused}
+use Rattle.prelude.specs.Verdict.{Accepted}
 use Rattle.overlap_checker.specs.declared.Entry.{Entry}
 use Rattle.overlap_checker.specs.Interval.{interval}
 use Rattle.overlap_checker.specs.Offers.{clashes_any, named, lacks_room}
@@ -104,7 +104,7 @@ module _ (s : State) (e : Entry) where
   accepts-any-node node = tries-map _ _ _ is_accepted ∙ sym (tries-map _ _ _ is_accepted)
 
   module _ (node : ℕ) where
-    pub answer-overlaps : Hit → answer s e node ≡ Refused (Overlap (named_in s e).position (named_in s e).size)
+    pub answer-overlaps : Hit → answer s e node ≡ Err (Overlap (named_in s e).position (named_in s e).size)
     unfolding tries
     answer-overlaps h = rw h
 
@@ -117,7 +117,7 @@ module _ (s : State) (e : Entry) where
         off true hit l = simp (hit, l)
         off false hit l = simp (hit, l)
 
-    pub answer-full : Clear → Lacks → answer s e node ≡ Refused (StoreFull node)
+    pub answer-full : Clear → Lacks → answer s e node ≡ Err (StoreFull node)
     answer-full h l = tries-full _ _ _ h l
 
     pub answer-passes : Clear → Room → answer s e node ≡ Accepted
@@ -155,7 +155,7 @@ module _ (s : State) (e : Entry) where
     unfolding after
     accepted-keeps given = pick_true (keeping s e) s (sym (accepts-any-node node) ∙ ap is_accepted given)
 
-    pub refused-keeps : (why : Refusal) → answer s e node ≡ Refused why → after s e ≡ s
+    pub refused-keeps : (why : Refusal) → answer s e node ≡ Err why → after s e ≡ s
     unfolding after
     refused-keeps why r = pick-false (keeping s e) s (sym (accepts-any-node node) ∙ ap is_accepted r)
 

@@ -3,7 +3,7 @@ use Rattle.std.specs.Prelude.{◌≡◌, ℕ}
 use Rattle.std.proofs.Common.{ap, ◌∙◌}
 use Rattle.prelude.specs.Told.{Told, refuses, Nothing, told_verdict}
 use Rattle.prelude.specs.declared.Place.TheVariants.{One}
-use Rattle.prelude.specs.declared.Verdict.{Verdict}
+use Rattle.prelude.specs.Verdict.{Verdict}
 use Rattle.overlap_checker.specs.declared.Entry.{Entry}
 use Rattle.overlap_checker.specs.Interval.{Within}
 use Rattle.overlap_checker.specs.State.{answer}

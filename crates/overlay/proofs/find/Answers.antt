@@ -1,41 +1,37 @@
-use Prim.Native.Nat.{◌+◌, ◌-◌, ◌*◌, ◌/◌, ◌≤◌, ◌<◌}
-use native.Mathlib.Omega.{arith}
-use lib.ListN.{get_or}
-use Rattle.overlay.specs.Laws.Order.{Row, row}
-use Rattle.overlay.proofs.BlockLaws.{lower-half, upper-half}
+-- `find` meets its contract: the blocks are in order, so those that start before a byte end before it, but for the last.
+use Rattle.std.proofs.Common.{sym, arith, rules, tests}
+use Rattle.overlay.specs.Laws.Order.{row}
+use Rattle.overlay.proofs.BlockLaws.{starts-found, finds-all, finds-last}
 use Rattle.overlay.proofs.find.Goals as goal
 
-pub bounds-sizes-mid : goal.bounds-sizes-mid
-bounds-sizes-mid c =
-    let in_row : Row 0 c.args.offsets.now c.args.sizes.now =
-    row 0 c.args.offsets.now c.args.sizes.now c.requires in
-    let p = in_row.paired in
-    omega arith
-
-pub loop-lo-preserved-then-begun_bytes-first : goal.loop-lo-preserved-then-begun_bytes-first
-loop-lo-preserved-then-begun_bytes-first c =
-    let in_row : Row 0 c.args.offsets.now c.args.sizes.now =
-    row 0 c.args.offsets.now c.args.sizes.now c.requires in
+pub returns-then-begun-eq0 : goal.returns-then-begun-eq0
+returns-then-begun-eq0 c =
     let a = c.args in
-    let mid = c.loop-lo.lo + (c.loop-lo.hi - c.loop-lo.lo) / 2 in
-    let turn : c.loop-lo.lo < c.loop-lo.hi = c.loop-lo-test.true in
-    let low : get_or a.offsets.now mid 0 + get_or a.sizes.now mid 0 ≤ 8 * a.first = omega (arith, c.begun_bytes.ensures, c.if-begun_bytes-first.true) in (
-      omega arith,
-      omega arith,
-      lower-half a.offsets.now a.sizes.now in_row (8 * a.first) mid (omega arith) low,
-      c.loop-lo.invariant.3,
-    )
+    let r = row 0 a.offsets.now a.sizes.now c.requires in
+    let begun = c.partition_point-begun in
+    rw (sym c.if-begun-eq0.true)
+    (finds-all a.offsets.now a.sizes.now r a.first begun.result begun.ensures.bound
+    (starts-found a.offsets.now a.sizes.now r a.first begun.result begun.ensures.partitioned (λ x q f k. search (rules, tests)))
+    (λ some. absurd (omega (arith, c.if-begun-eq0.true))))
 
-pub loop-lo-preserved : goal.loop-lo-preserved
-loop-lo-preserved c =
-    let in_row : Row 0 c.args.offsets.now c.args.sizes.now =
-    row 0 c.args.offsets.now c.args.sizes.now c.requires in
+pub bounds-sizes-last : goal.bounds-sizes-last
+bounds-sizes-last c =
+    omega (arith, (row 0 c.args.offsets.now c.args.sizes.now c.requires).paired, c.partition_point-begun.ensures.bound, c.if-begun-eq0.false)
+
+pub returns-then-begun_bytes-first : goal.returns-then-begun_bytes-first
+returns-then-begun_bytes-first c =
     let a = c.args in
-    let mid = c.loop-lo.lo + (c.loop-lo.hi - c.loop-lo.lo) / 2 in
-    let turn : c.loop-lo.lo < c.loop-lo.hi = c.loop-lo-test.true in
-    let high : 8 * a.first < get_or a.offsets.now mid 0 + get_or a.sizes.now mid 0 = omega (arith, c.begun_bytes.ensures, c.if-begun_bytes-first.false) in (
-      omega arith,
-      omega arith,
-      c.loop-lo.invariant.2,
-      upper-half a.offsets.now a.sizes.now in_row (8 * a.first) mid high,
-    )
+    let r = row 0 a.offsets.now a.sizes.now c.requires in
+    let begun = c.partition_point-begun in
+    finds-all a.offsets.now a.sizes.now r a.first begun.result begun.ensures.bound
+    (starts-found a.offsets.now a.sizes.now r a.first begun.result begun.ensures.partitioned (λ x q f k. search (rules, tests)))
+    (λ some. omega (arith, c.begun_bytes.ensures, c.if-begun_bytes-first.true))
+
+pub returns : goal.returns
+returns c =
+    let a = c.args in
+    let r = row 0 a.offsets.now a.sizes.now c.requires in
+    let begun = c.partition_point-begun in
+    finds-last a.offsets.now a.sizes.now r a.first begun.result begun.ensures.bound
+    (starts-found a.offsets.now a.sizes.now r a.first begun.result begun.ensures.partitioned (λ x q f k. search (rules, tests)))
+    (omega (arith, c.if-begun-eq0.false)) (omega (arith, c.begun_bytes.ensures, c.if-begun_bytes-first.false))

@@ -1,51 +1,53 @@
-use mathlib.Core.Path.{◌≡◌, sym, ◌∙◌}
-use Prim.Native.Nat.{◌+◌}
-use native.Mathlib.Omega.{arith}
-use borrow.Author.Tests.{not-true, not-false, leb-true, leb-false}
-use lib.ListN.{get_or}
+use Rattle.std.proofs.Common.{◌+◌, ◌<◌, ◌≤◌, length, drop, sym, ap, ap₂, ◌∙◌, arith, rules, tests}
+use Rattle.std.proofs.lemmas.List.{length_push}
+use Rattle.std.proofs.lemmas.Slice.Zip.{zip_turn, zip_end}
+use Rattle.overlay.specs.Order.{in_order}
 use Rattle.overlay.proofs.BlockLaws.{order-next, order-empty, order-low, order-ends, order-unpaired}
 use Rattle.overlay.proofs.in_order.Goals as goal
 
 pub returns-then-offsets-sizes : goal.returns-then-offsets-sizes
 returns-then-offsets-sizes c =
-    let a = c.args in
-    order-unpaired 0 a.offsets.now a.sizes.now c.if-offsets-sizes.true
+    order-unpaired 0 c.args.offsets.now c.args.sizes.now c.if-offsets-sizes.true
 
-pub returns-then-sizes-i-eq0 : goal.returns-then-sizes-i-eq0
-returns-then-sizes-i-eq0 c =
-    let a = c.args in
-    sym (order-empty (c.loop-i.offset + c.loop-i.size) a.offsets.now a.sizes.now c.loop-i.i c.loop-i-test.true c.loop-i.invariant.1
-    c.if-sizes-i-eq0.true) ∙ c.loop-i.invariant.2
+pub returns-then-bits-eq0 : goal.returns-then-bits-eq0
+returns-then-bits-eq0 c =
+    let l = c.loop-next in
+    let t = zip_turn c.args.offsets.now c.args.sizes.now l.yielded _ _ c.next.new.self _ (cc) (cc) l.yielded_by _ c.in-Some.is c.next.ensures.steps in
+    sym
+    (order-empty (l.offset + l.size) c.args.offsets.now c.args.sizes.now (length l.yielded) t.0 l.invariant.0
+    (sym (t.3 0) ∙ c.if-bits-eq0.true))
+    ∙ l.invariant.1
 
 pub returns-then-not-ends_by : goal.returns-then-not-ends_by
 returns-then-not-ends_by c =
-    -- whether the block before ends by the start of this one
-    let ended : c.ends_by.result ≡ lib.Dec.leb (c.loop-i.offset + c.loop-i.size)
-    (get_or c.args.offsets.now c.loop-i.i 0) =
-    c.ends_by.ensures in
-    let a = c.args in
-    let low = leb-false (c.loop-i.offset + c.loop-i.size) (get_or a.offsets.now c.loop-i.i 0)
-    (sym ended ∙ not-true c.ends_by.result c.if-not-ends_by.true-raw) in
-    sym (order-low (c.loop-i.offset + c.loop-i.size) a.offsets.now a.sizes.now c.loop-i.i
-    c.loop-i-test.true c.loop-i.invariant.1 low) ∙ c.loop-i.invariant.2
+    let l = c.loop-next in
+    let t = zip_turn c.args.offsets.now c.args.sizes.now l.yielded _ _ c.next.new.self _ (cc) (cc) l.yielded_by _ c.in-Some.is c.next.ensures.steps in
+    let low : c.in-Some.next.now < l.offset + l.size = search (rules, tests) in
+    sym
+    (order-low (l.offset + l.size) c.args.offsets.now c.args.sizes.now (length l.yielded) t.0 l.invariant.0
+    (omega (arith, low, t.2 0)))
+    ∙ l.invariant.1
 
-pub loop-i-preserved : goal.loop-i-preserved
-loop-i-preserved c =
-    -- whether the block before ends by the start of this one
-    let ended : c.ends_by.result ≡ lib.Dec.leb (c.loop-i.offset + c.loop-i.size)
-    (get_or c.args.offsets.now c.loop-i.i 0) =
-    c.ends_by.ensures in
-    let a = c.args in
-    let t = c.loop-i-test.true in
-    let above = leb-true (c.loop-i.offset + c.loop-i.size) (get_or a.offsets.now c.loop-i.i 0)
-    (sym ended ∙ not-false c.ends_by.result c.if-not-ends_by.false-raw) in (
-      omega arith,
-      c.loop-i.invariant.1,
-      sym (order-next (c.loop-i.offset + c.loop-i.size) a.offsets.now a.sizes.now c.loop-i.i t c.loop-i.invariant.1
-          c.if-sizes-i-eq0.false above) ∙ c.loop-i.invariant.2,
+pub loop-next-preserved : goal.loop-next-preserved
+loop-next-preserved c =
+    let l = c.loop-next in
+    let os = c.args.offsets.now in
+    let ss = c.args.sizes.now in
+    let n = length l.yielded in
+    let t = zip_turn os ss l.yielded _ _ c.next.new.self _ (cc) (cc) l.yielded_by _ c.in-Some.is c.next.ensures.steps in
+    let above : l.offset + l.size ≤ c.in-Some.next.now = search (rules, tests) in (
+      l.invariant.0,
+      ap (λ m. in_order (c.in-Some.next.now + c.in-Some.bits.now) (drop m os) (drop m ss)) (length_push l.yielded _)
+          ∙ ap₂ (λ x y. in_order (x + y) (drop (n + 1) os) (drop (n + 1) ss)) (t.2 0) (t.3 0)
+          ∙ sym
+          (order-next (l.offset + l.size) os ss n t.0 l.invariant.0 (λ e. c.if-bits-eq0.false (t.3 0 ∙ e)) (omega (arith, above, t.2 0)))
+          ∙ l.invariant.1,
     )
 
 pub returns : goal.returns
 returns c =
-    let a = c.args in
-    sym (order-ends (c.loop-i.offset + c.loop-i.size) a.offsets.now a.sizes.now c.loop-i.i c.loop-i-test.false c.loop-i.invariant.1) ∙ c.loop-i.invariant.2
+    let l = c.loop-next in
+    let e = zip_end c.args.offsets.now c.args.sizes.now l.yielded _ _ c.next.new.self _ (cc) (cc) l.yielded_by c.in-None.is c.next.ensures.steps in
+    sym
+    (order-ends (l.offset + l.size) c.args.offsets.now c.args.sizes.now (length l.yielded) (omega (arith, e, l.invariant.0)) l.invariant.0)
+    ∙ l.invariant.1

@@ -1,8 +1,7 @@
 use mathlib.Core.Path.{◌≡◌, ◌∙◌, ap}
-use Prim.Native.Nat.{ℕ, ◌+◌, ◌/◌, ◌≤◌, min}
-use native.Mathlib.Nat.{min-le_left, min-le_right}
+use Prim.Native.Nat.{ℕ, ◌+◌, ◌/◌, min}
 use native.Mathlib.Omega.{arith}
-use lib.ListN.{length, get_or}
+use lib.ListN.{get_or}
 use Rattle.overlay.specs.Laws.Order.{Row, row}
 use Rattle.overlay.specs.Runs.{shorter}
 use Rattle.overlay.specs.Trial.{Trial, trial}
@@ -46,17 +45,11 @@ list_stretch-count-requires c =
     c.at_most-to.ensures
     ∙ ap (λ (m : ℕ). min m c.at_most-len.result) c.whole_bytes.ensures
     ∙ ap (min ((get_or c.args.offsets.now last 0 + get_or c.args.sizes.now last 0) / 8)) c.at_most-len.ensures in
-    let lo = length c.args.overlay.now in
-    let lr = length c.args.released.now in
-    let len = c.at_most-len in
     let w = c.loop-i.invariant.1 in
     let above = from-above lent in_row c.loop-i.i c.chain_end-last.result c.at_most-from.result c.at_most-to.result
     c.chain_end-last.ensures from_is to_is w.place w.walked c.loop-i-test.true in
     let few = w.few in
-    let top : c.at_most-to.result ≤ len.result = omega (arith, c.at_most-to.ensures, min-le_right c.whole_bytes.result len.result) in
-    let left : len.result ≤ lo = omega (arith, len.ensures, min-le_left lo lr) in
-    let right : len.result ≤ lr = omega (arith, len.ensures, min-le_right lo lr) in
-    (omega arith, omega arith, omega arith)
+    omega arith
 
 pub loop-i-preserved : goal.loop-i-preserved
 unfolding shorter

@@ -1,14 +1,13 @@
 -- What a call of `differences` leaves, by its contract: each refusal exactly when, in order, and then nothing lent is changed; else the
 -- runs stand at the front, and what stands past them stays.
-use Rattle.std.specs.Prelude.{◌≡◌, true, List, ◌↔◌, ℕ, ◌≤◌, length}
+use Rattle.std.specs.Prelude.{◌≡◌, true, List, ◌↔◌, ℕ, ◌≤◌, length, Result, Ok, Err}
 use Rattle.std.proofs.Common.{sym, ◌∙◌}
 use Rattle.prelude.specs.Laws.Bools.{unlike}
 use Rattle.prelude.specs.Pick.{pick}
 use Rattle.prelude.specs.declared.Refusal.TheVariants.{TooShort}
+use Rattle.prelude.specs.declared.Refusal.{Refusal}
 use Rattle.blocks.specs.Outcome.{room_for}
 use Rattle.blocks.specs.Theorems.Exactly.{room-exactly}
-use Rattle.overlay.specs.declared.Listed.{Listed}
-use Rattle.overlay.specs.declared.Listed.TheVariants.{Runs, Refused}
 use Rattle.overlay.specs.Laws.CoverFacts.{either}
 use Rattle.overlay.specs.List.{Lists}
 use Rattle.overlay.specs.Order.{in_order, Acceptable}
@@ -16,7 +15,7 @@ use Rattle.overlay.specs.Theorems.Order.{in-order-exactly}
 use Rattle.overlay.specs.Runs.{runs_of}
 use Rattle.overlay.specs.Trial.{Trial}
 
-module _ (t : Trial) (fs cs : List ℕ) (r : Listed) (fs' cs' : List ℕ) (met : Lists t fs cs r fs' cs') where
+module _ (t : Trial) (fs cs : List ℕ) (r : Result ℕ Refusal) (fs' cs' : List ℕ) (met : Lists t fs cs r fs' cs') where
   -- There is room for the runs in both of the lent slices.
   pub record Room : Type 0 where
     pub first : length (runs_of t) ≤ length fs
@@ -33,15 +32,15 @@ module _ (t : Trial) (fs cs : List ℕ) (r : Listed) (fs' cs' : List ℕ) (met :
     order : in_order 0 t.offsets t.sizes ≡ true
     order = (in-order-exactly t.offsets t.sizes).1 ok
 
-    answered : r ≡ pick (room_for (runs_of t) fs cs) (Runs (length (runs_of t))) (Refused (TooShort 2))
+    answered : r ≡ pick (room_for (runs_of t) fs cs) (Ok (length (runs_of t))) (Err (TooShort 2))
     answered = rw order at met.answer
 
     -- "14 for a short list"
-    pub list-refused-14-exactly : (r ≡ Refused (TooShort 2)) ↔ (Room → ⊥)
+    pub list-refused-14-exactly : (r ≡ Err (TooShort 2)) ↔ (Room → ⊥)
     list-refused-14-exactly = (
       (λ e m. not_short (sym e ∙ (rw (room-true m) at answered))),
       (λ h. either (room_for (runs_of t) fs cs) (λ e. absurd (h (true-room e))) (λ e. rw e at answered)),
     )
       where
-        not_short : Refused (TooShort 2) ≡ Runs (length (runs_of t)) → ⊥
+        not_short : Err (TooShort 2) ≡ Ok (length (runs_of t)) → ⊥
         not_short e = unlike cc

@@ -1,11 +1,11 @@
 -- Theorems about what RangeFacts defines.
-use Rattle.std.specs.Prelude.{◌≡◌, refl, Bool, true, false, ◌↔◌, ℕ, ◌+◌, ◌*◌, length}
+use Rattle.std.specs.Prelude.{◌≡◌, refl, Bool, true, false, ◌↔◌, ℕ, ◌+◌, ◌*◌, length, Err, Ok}
 use Rattle.std.proofs.Common.{sym, ◌∙◌, arith}
 use borrow.Author.Tests.{lt-ltb, le-leb}
 use Rattle.prelude.specs.Laws.Bools.{unlike}
 use Rattle.prelude.specs.Pick.{pick}
 use Rattle.prelude.specs.declared.Refusal.TheVariants.{PartlyCovered}
-use Rattle.overlay.specs.declared.Source.TheVariants.{Overlay, Released, Refused}
+use Rattle.overlay.specs.declared.Source.TheVariants.{Overlay, Released}
 use Rattle.overlay.specs.Cover.{covered_bit, all_covered, none_covered}
 use Rattle.overlay.specs.Laws.CoverFacts.{either, clash}
 use Rattle.overlay.specs.Theorems.CoverFacts.{all-holds, all_from, byte-holds, byte-from, none-holds, none_from}
@@ -57,25 +57,25 @@ module _ (t : Trial) (first count : ℕ) where
           n (8 * first) (omega arith) (omega arith) (a first (omega arith) (omega arith) (8 * first) (omega arith) (omega arith))
 
       -- "If every byte of the range is covered by overlay blocks .. that part of the overlay": exactly then.
-      pub overlay-exactly : (source_of t first count ≡ Overlay) ↔ AllCovered t first count
+      pub overlay-exactly : (source_of t first count ≡ (Ok Overlay)) ↔ AllCovered t first count
       overlay-exactly = (
         (λ e. all-means (whole (all_covered bit first count) (none_covered bit first count) (sym is-judged ∙ e))),
         (λ h. is-judged ∙ rw (means-all h)),
       )
         where
-          whole : (a n : Bool) → pick a Overlay (pick n Released (Refused PartlyCovered)) ≡ Overlay → a ≡ true
+          whole : (a n : Bool) → pick a (Ok Overlay) (pick n (Ok Released) (Err PartlyCovered)) ≡ (Ok Overlay) → a ≡ true
           whole true n e = refl
           whole false true e = unlike cc
           whole false false e = unlike cc
 
       -- "if no bit of it is, that part of the released image": exactly then.
-      pub released-exactly : (source_of t first count ≡ Released) ↔ NoneCovered t first count
+      pub released-exactly : (source_of t first count ≡ (Ok Released)) ↔ NoneCovered t first count
       released-exactly = (
         (λ e. none-means (free (all_covered bit first count) (none_covered bit first count) (sym is-judged ∙ e))),
         (λ h. is-judged ∙ either (all_covered bit first count) (λ a. absurd (not-both (all-means a) h)) (λ a. rw (a, means-none h))),
       )
         where
-          free : (a n : Bool) → pick a Overlay (pick n Released (Refused PartlyCovered)) ≡ Released → n ≡ true
+          free : (a n : Bool) → pick a (Ok Overlay) (pick n (Ok Released) (Err PartlyCovered)) ≡ (Ok Released) → n ≡ true
           free true n e = unlike cc
           free false true e = refl
           free false false e = unlike cc

@@ -18,29 +18,29 @@ returns-then-source-ge-SOURCE-clause-writes c =
 
 pub write_line-requires : goal.write_line-requires
 write_line-requires c =
-    let short : length (line (ascii "line") (c.in-At.line ∷ [])) ≤ 26 =
-    omega (arith, line-words (ascii "line") (c.in-At.line ∷ []) (search rules, tt)) in
+    let short : length (line (ascii "line") (c.in-Some.line ∷ [])) ≤ 26 =
+    omega (arith, line-words (ascii "line") (c.in-Some.line ∷ []) (search rules, tt)) in
     omega (arith, short, c.requires)
 
-pub returns-in-Good-clause-writes : goal.returns-in-Good-clause-writes
-returns-in-Good-clause-writes c =
+pub returns-in-None-clause-writes : goal.returns-in-None-clause-writes
+returns-in-None-clause-writes c =
     let told = c.line_at_fault-fault.ensures.0 in writes_as
-    (fault-good c.args.load c.args.source.now (omega (arith, c.if-source-ge-SOURCE.false)) (sym c.in-Good.is ∙ told))
+    (fault-good c.args.load c.args.source.now (omega (arith, c.if-source-ge-SOURCE.false)) (sym c.in-None.is ∙ told))
     (writes-none c.args.at)
 
-pub returns-in-At-clause-writes : goal.returns-in-At-clause-writes
-returns-in-At-clause-writes c =
-    let short : length (line (ascii "line") (c.in-At.line ∷ [])) ≤ 26 =
-    omega (arith, line-words (ascii "line") (c.in-At.line ∷ []) (search rules, tt)) in
-    let n = c.in-At.line in
+pub returns-in-Some-clause-writes : goal.returns-in-Some-clause-writes
+returns-in-Some-clause-writes c =
+    let short : length (line (ascii "line") (c.in-Some.line ∷ [])) ≤ 26 =
+    omega (arith, line-words (ascii "line") (c.in-Some.line ∷ []) (search rules, tt)) in
+    let n = c.in-Some.line in
     let w = c.write_line.ensures in writes_as
     (fault-at c.args.load c.args.source.now (omega (arith, c.if-source-ge-SOURCE.false)) n
-    (sym c.in-At.is ∙ c.line_at_fault-fault.ensures.0))
+    (sym c.in-Some.is ∙ c.line_at_fault-fault.ensures.0))
     w
 
-pub returns-in-At-clause-upper_bound : goal.returns-in-At-clause-upper_bound
-returns-in-At-clause-upper_bound c =
-    let short : length (line (ascii "line") (c.in-At.line ∷ [])) ≤ 26 =
-    omega (arith, line-words (ascii "line") (c.in-At.line ∷ []) (search rules, tt)) in
-    let n = c.in-At.line in
+pub returns-in-Some-clause-upper_bound : goal.returns-in-Some-clause-upper_bound
+returns-in-Some-clause-upper_bound c =
+    let short : length (line (ascii "line") (c.in-Some.line ∷ [])) ≤ 26 =
+    omega (arith, line-words (ascii "line") (c.in-Some.line ∷ []) (search rules, tt)) in
+    let n = c.in-Some.line in
     let w = c.write_line.ensures in omega (arith, c.write_line.ensures.place, short)

@@ -36,4 +36,4 @@ returns c =
     omega (arith, length-field c.args.bytes.now, c.requires.bytes_in_bounds, c.write_word-from.ensures.place, writes-long c.write_word-from.ensures) in
     writes_then c.write_word-from.ensures
     (hex-writes c.args.bytes.now c.write_word-from.new.out c.write_word-from.result (roomy) c.write_hex.result
-    c.write_hex.new.hex c.write_hex.ensures c.in-Digits.is)
+    c.write_hex.new.hex c.write_hex.ensures c.in-Ok.is)

@@ -4,7 +4,7 @@ use mathlib.Core.List.Memᴰ
 use Rattle.std.proofs.Common.{leb-true, ltb-true}
 use Rattle.prelude.specs.Laws.Bools.{either, clash, both}
 use Rattle.bitvec.specs.Within.{covers}
-use Rattle.blocks.specs.Bits.{InBlock, Some}
+use Rattle.blocks.specs.Bits.{InBlock, SomeElement}
 use Rattle.blocks.specs.Outcome.{origins, sizes}
 use Rattle.blocks.specs.declared.Block.{Block}
 use Rattle.overlay.specs.Cover.{covered_bit}
@@ -15,7 +15,7 @@ in_block b k e =
     let t = both (leb b.origin k) (ltb k (b.origin + b.size)) e in
     (leb-true b.origin k t.0, ltb-true k (b.origin + b.size) t.1)
 
-pub some_block : (l : List Block) (k : ℕ) → covered_bit (origins l) (sizes l) k ≡ true → Some (InBlock k) l
+pub some_block : (l : List Block) (k : ℕ) → covered_bit (origins l) (sizes l) k ≡ true → SomeElement (InBlock k) l
 unfolding covered_bit
 some_block [] k e = absurd (clash e refl)
 some_block (b ∷ l) k e =

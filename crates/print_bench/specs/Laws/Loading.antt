@@ -1,5 +1,5 @@
 -- A file that is read: what stands in what was lent, or why nothing does.
-use Rattle.std.specs.Prelude.{◌≡◌, refl, List, [], ◌∷◌, ℕ, ◌≤◌, ◌<◌, length, take, drop}
+use Rattle.std.specs.Prelude.{◌≡◌, refl, List, [], ◌∷◌, ℕ, ◌≤◌, ◌<◌, length, take, drop, Err, Result, Ok, None, Some}
 use Rattle.std.proofs.Math.Path.{sym}
 use Rattle.std.proofs.Common.{ap, ap₂, ◌∙◌, arith, le-leb, length-append, length-drop, length-take-le}
 use Rattle.std.proofs.lemmas.Bool.{lt-leb}
@@ -10,13 +10,10 @@ use Rattle.prelude.specs.declared.Refusal.{Refusal}
 use Rattle.prelude.specs.declared.Refusal.TheVariants.{Malformed}
 use Rattle.blocks.specs.Outcome.{origins, sizes, over}
 use Rattle.blocks.specs.declared.Block.{Block}
-use Rattle.blocks.specs.declared.Blocks.{Blocks}
-use Rattle.blocks.specs.declared.Blocks.TheVariants.{Found, Refused}
 use Rattle.print_text.specs.Ascii.{ascii}
 use Rattle.print_text.specs.Lines.{line}
 use Rattle.record_scan.specs.Outcome.{fault_of}
 use Rattle.record_scan.specs.Reading.{Read, sound, faulty, read_text}
-use Rattle.record_scan.specs.declared.Fault.TheVariants.{Good, At}
 use Rattle.record_read.specs.Given.{filled}
 use Rattle.record_read.specs.Outcome.{Lent, answer_of, Reads}
 use Rattle.record_read.specs.Runs.{reach, blocks_given}
@@ -43,7 +40,7 @@ ap₃ : {a b : List ℕ} {c d : List ℕ} {e f : List ℕ} (g : List ℕ → Lis
 ap₃ {a} {b} {c} {d} {e} {f} g p q r = ap₂ (λ (x y : List ℕ). g x y e) p q ∙ ap (g b d) r
 
 module _ (load : ℕ) (l : Lent) (hb : length l.bytes ≡ bytes_room) (ho : length l.offsets ≡ blocks_room) (hs : length l.sizes ≡ blocks_room) where
-  not-read : (read : Read) (why : Refusal) → answer_of load l read ≡ Refused why → read_file load l.bytes read ≡ unread why
+  not-read : (read : Read) (why : Refusal) → answer_of load l read ≡ Err why → read_file load l.bytes read ≡ unread why
   not-read (faulty n) why e = ap unread (same-refusal e)
   not-read (sound pieces) why e =
       no_room unread load l bytes_room blocks_room hb ho hs pieces
@@ -51,8 +48,8 @@ module _ (load : ℕ) (l : Lent) (hb : length l.bytes ≡ bytes_room) (ho : leng
 
   -- ---- read
 
-  module _ (source : List ℕ) (short : length source ≤ longest) (r : Blocks) (new : Lent) (c : Reads load (read_text 0 load source) l r new) where
-    module _ (count : ℕ) (found : r ≡ Found count) where
+  module _ (source : List ℕ) (short : length source ≤ longest) (r : Result ℕ Refusal) (new : Lent) (c : Reads load (read_text 0 load source) l r new) where
+    module _ (count : ℕ) (found : r ≡ Ok count) where
       h : Held load l (read_text 0 load source) count new
       h = held load l (read_text 0 load source) r new c count found
 
@@ -69,7 +66,7 @@ module _ (load : ℕ) (l : Lent) (hb : length l.bytes ≡ bytes_room) (ho : leng
       over-long : (a b : List ℕ) → length a ≤ length b → length (over a b) ≡ length b
       over-long a b h = omega (arith, length-append a (drop (length a) b), length-drop (length a) b)
 
-      pub all-loaded : Loads (file_of load l.bytes source) (Found count) new.bytes new.offsets new.sizes
+      pub all-loaded : Loads (file_of load l.bytes source) (Ok count) new.bytes new.offsets new.sizes
       all-loaded = (
         read-file,
         omega (arith, h.counted, h.places.0, ho),
@@ -80,9 +77,9 @@ module _ (load : ℕ) (l : Lent) (hb : length l.bytes ≡ bytes_room) (ho : leng
             ∙ over-long (sizes blocks) l.sizes (omega (arith, length-map blocks (λ b. b.size), h.places.1)) ∙ hs,
       )
 
-    loaded-by : (x : Blocks) → r ≡ x → Loads (file_of load l.bytes source) x new.bytes new.offsets new.sizes
-    loaded-by (Found count) e = all-loaded count e
-    loaded-by (Refused why) e =
+    loaded-by : (x : Result ℕ Refusal) → r ≡ x → Loads (file_of load l.bytes source) x new.bytes new.offsets new.sizes
+    loaded-by (Ok count) e = all-loaded count e
+    loaded-by (Err why) e =
         not-long load l.bytes source short ∙ not-read (read_text 0 load source) why (sym c.answer ∙ e)
 
     pub loaded : Loads (file_of load l.bytes source) r new.bytes new.offsets new.sizes
@@ -96,7 +93,7 @@ pub record Fronts (n : ℕ) (os ss : List ℕ) : Type 0 where
   pub long : n ≡ length (take n os)
   pub lengths : n ≡ length (take n ss)
 
-pub fronts : {file : File} {n : ℕ} {bytes os ss : List ℕ} → Loads file (Found n) bytes os ss → Fronts n os ss
+pub fronts : {file : File} {n : ℕ} {bytes os ss : List ℕ} → Loads file (Ok n) bytes os ss → Fronts n os ss
 fronts {n = n} {os = os} {ss = ss} l =
     let o : n ≤ length os = omega (arith, l.1, l.3) in
     let s : n ≤ length ss = omega (arith, l.1, l.4) in
@@ -104,10 +101,10 @@ fronts {n = n} {os = os} {ss = ss} l =
 
 -- ---- the line at fault
 
-not_good : {n : ℕ} → Good ≡ At n → ⊥
+not_good : {n : ℕ} → None ≡ Some n → ⊥
 not_good e = unlike cc
 
-same_line : {m n : ℕ} → At m ≡ At n → m ≡ n
+same_line : {m n : ℕ} → Some m ≡ Some n → m ≡ n
 same_line e = cc
 
 pub fault-long : (load : ℕ) (source : List ℕ) → longest < length source → [] ≡ fault_in load source
@@ -118,19 +115,19 @@ pub fault-short : (load : ℕ) (source : List ℕ) → length source ≤ longest
 unfolding fault_in
 fault-short load source h = sym (pick_true _ _ (le-leb (length source) longest h))
 
-good-text : (read : Read) → Good ≡ fault_of read → [] ≡ fault_text read
+good-text : (read : Read) → None ≡ fault_of read → [] ≡ fault_text read
 good-text (sound pieces) e = refl
 good-text (faulty n) e = absurd (not_good e)
 
-at-text : (read : Read) (n : ℕ) → At n ≡ fault_of read → line (ascii "line") (n ∷ []) ≡ fault_text read
+at-text : (read : Read) (n : ℕ) → Some n ≡ fault_of read → line (ascii "line") (n ∷ []) ≡ fault_text read
 at-text (sound pieces) n e = absurd (not_good (sym e))
 at-text (faulty m) n e = ap (λ (k : ℕ). fault_text (faulty k)) (same_line e)
 
 module _ (load : ℕ) (source : List ℕ) (short : length source ≤ longest) where
-  pub fault-good : Good ≡ fault_of (read_text 0 load source) → [] ≡ fault_in load source
+  pub fault-good : None ≡ fault_of (read_text 0 load source) → [] ≡ fault_in load source
   fault-good e = good-text (read_text 0 load source) e ∙ fault-short load source short
 
-  pub fault-at : (n : ℕ) → At n ≡ fault_of (read_text 0 load source) → line (ascii "line") (n ∷ []) ≡ fault_in load source
+  pub fault-at : (n : ℕ) → Some n ≡ fault_of (read_text 0 load source) → line (ascii "line") (n ∷ []) ≡ fault_in load source
   fault-at n e = at-text (read_text 0 load source) n e ∙ fault-short load source short
 
 -- ---- the whole text, by what the files give

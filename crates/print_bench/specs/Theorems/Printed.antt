@@ -1,5 +1,5 @@
 -- What the program prints, said of its definition: a refused file's lines, and of two good files the answer over their images.
-use Rattle.std.specs.Prelude.{◌≡◌, ℕ, ◌+◌, ◌-◌, ◌≤◌, length, take, drop}
+use Rattle.std.specs.Prelude.{◌≡◌, ℕ, ◌+◌, ◌-◌, ◌≤◌, length, take, drop, Ok}
 use Rattle.std.proofs.Common.{◌∙◌, le-leb, le-ltb, ne_eqb}
 use Rattle.std.proofs.Math.Path.{ap}
 use mathlib.Core.List.{List, [], ◌∷◌, ◌++◌}
@@ -87,12 +87,12 @@ module _ (load address count : ℕ) (t : Trial) (os ss : List ℕ) (some : count
   range-is = pick-false _ _ (ne_eqb count 0 some) ∙ pick-false _ _ (le-ltb address load above)
 
   -- "it hands back that part of the overlay": the word, and the bytes in hex;
-  pub range-tells-overlay : source_of t first count ≡ Overlay
+  pub range-tells-overlay : source_of t first count ≡ (Ok Overlay)
       → range_text load address count t os ss ≡ bytes_text (ascii "overlay") (take count (drop first t.overlay))
   range-tells-overlay e = range-is ∙ ap (ToldBy load first count (free_from os ss first) (free_from t.offsets t.sizes first) t) e
 
   -- "that part of the released image", where the file gives all of it (Given.before-it-is-given).
-  pub range-tells-released : source_of t first count ≡ Released → first + count ≤ free_from os ss first
+  pub range-tells-released : source_of t first count ≡ (Ok Released) → first + count ≤ free_from os ss first
       → range_text load address count t os ss ≡ bytes_text (ascii "released") (take count (drop first t.released))
   range-tells-released e h =
       range-is ∙ ap (ToldBy load first count (free_from os ss first) (free_from t.offsets t.sizes first) t) e

@@ -1,9 +1,7 @@
 -- Laws that proofs about Marks need.
-use Rattle.std.specs.Prelude.{◌≡◌, refl, Bool, true, false, ℤ, pos, nat_abs}
+use Rattle.std.specs.Prelude.{◌≡◌, refl, Bool, true, false, ℤ, pos, nat_abs, Option, ℕ, None, Some}
 use Rattle.std.specs.Int.Signed.{lt_z}
 use Rattle.prelude.specs.Pick.{pick}
-use Rattle.prelude.specs.declared.Opt.{Opt}
-use Rattle.prelude.specs.declared.Opt.TheVariants.{None, Some}
 use Rattle.print_map.specs.Cells.{number, minus, signed, optional}
 use Rattle.print_map.specs.Marks.{cell_of, mark_of, sign_of, value_of}
 
@@ -14,6 +12,6 @@ is_signed z = by (lt_z z (pos 0))
     by true = refl
     by false = refl
 
-pub is-optional : (o : Opt) → cell_of (mark_of o) (value_of o) ≡ optional o
+pub is-optional : (o : Option ℕ) → cell_of (mark_of o) (value_of o) ≡ optional o
 is-optional None = refl
 is-optional (Some n) = refl

@@ -1,23 +1,18 @@
 -- Laws that Theorems/SameText rests on: lines of one word one behind the other, up to a line of another word, tell how many they are and the cells of each.
-use Rattle.std.specs.Prelude.{◌≡◌, refl, Bool, true, false, ◌&&◌, List, [], ◌∷◌, ◌++◌, ℕ, zero, suc, ◌<◌, leb, ℤ, pos, negsuc, get_or}
+use Rattle.std.specs.Prelude.{◌≡◌, refl, Bool, true, false, ◌&&◌, List, [], ◌∷◌, ◌++◌, ℕ, zero, suc, ◌<◌, leb, ℤ, pos, negsuc, get_or, Option, None, Some, Err}
 use Rattle.std.proofs.Common.{sym, ap, ap₂, ◌∙◌, append-nil, append_assoc, arith, le-ltb, leb-true}
 use Rattle.prelude.specs.Laws.Bools.{both, unlike}
 use Rattle.prelude.specs.Refusals.{number_of, place_of}
 use Rattle.prelude.specs.Theorems.Told.{refusal-by-figures}
-use Rattle.prelude.specs.declared.Opt.{Opt}
-use Rattle.prelude.specs.declared.Opt.TheVariants.{None, Some}
 use Rattle.prelude.specs.declared.Place.{Place}
 use Rattle.prelude.specs.declared.Place.TheVariants.{One, Two}
 use Rattle.prelude.specs.declared.Refusal.{Refusal}
-use Rattle.prelude.specs.declared.Verdict.{Verdict}
-use Rattle.prelude.specs.declared.Verdict.TheVariants.{Accepted, Refused}
+use Rattle.prelude.specs.Verdict.{Verdict, Accepted}
 use Rattle.bankdef.specs.declared.Bankdef.{Bankdef}
 use Rattle.bankdef.specs.declared.Bankdefs.{Bankdefs}
 use Rattle.iter.specs.Step.{no_lost}
 use Rattle.iter.specs.declared.Lost.{Lost}
 use Rattle.resolver.specs.Once.{bank_record}
-use Rattle.build_map.specs.declared.Fault.{Fault}
-use Rattle.build_map.specs.declared.Fault.TheVariants.{None as NoFault, At as AtNode}
 use Rattle.print_text.specs.Ascii.{ascii}
 use Rattle.print_map.specs.Cells.{Cell, number, minus, cells_from, line_of, signed, optional}
 use Rattle.print_map.specs.Marks.{bit_of}
@@ -128,7 +123,7 @@ signed-told (negsuc a) (pos b) e =
     unlike cc
 signed-told (negsuc a) (negsuc b) e = let f : suc a ≡ suc b = cc in ap negsuc (omega arith)
 
-optional-told : (o p : Opt) → optional o ≡ optional p → o ≡ p
+optional-told : (o p : Option ℕ) → optional o ≡ optional p → o ≡ p
 optional-told None None e = refl
 optional-told None (Some n) e = unlike cc
 optional-told (Some m) None e = unlike cc
@@ -140,7 +135,7 @@ bit-told true false e = absurd (omega arith)
 bit-told false true e = absurd (omega arith)
 bit-told false false e = refl
 
-made : {u u' : ℕ} {s s' : ℤ} {z z' o o' a a' : Opt} {f f' : Bool} {b b' : ℕ} → u ≡ u' → s ≡ s' → z ≡ z' → o ≡ o' → a ≡ a' → f ≡ f' → b ≡ b'
+made : {u u' : ℕ} {s s' : ℤ} {z z' o o' a a' : Option ℕ} {f f' : Bool} {b b' : ℕ} → u ≡ u' → s ≡ s' → z ≡ z' → o ≡ o' → a ≡ a' → f ≡ f' → b ≡ b'
     → ◌≡◌ {A = Bankdef} (record { unit = u; start = s; size = z; offset = o; align = a; fill = f; fill_bit = b })
     (record { unit = u'; start = s'; size = z'; offset = o'; align = a'; fill = f'; fill_bit = b' })
 made e f g h i j k = rw (e, f, g, h, i, j, k)
@@ -177,20 +172,20 @@ above-33 (c ∷ l) e = let x = both (leb 33 c) (letters l) e in (leb-true 33 c x
 -- a verdict's line by its word and its cells
 abbrev verdict_word : Verdict → List ℕ
 verdict_word Accepted = ascii "accepted"
-verdict_word (Refused why) = ascii "refused"
+verdict_word (Err why) = ascii "refused"
 
 abbrev verdict_cells : Verdict → List Cell
 verdict_cells Accepted = []
-verdict_cells (Refused why) = number (number_of why) ∷ place_cells (place_of why)
+verdict_cells (Err why) = number (number_of why) ∷ place_cells (place_of why)
 
 verdict-above : (v : Verdict) → Above 33 (verdict_word v)
 verdict-above Accepted = above-33 (ascii "accepted") refl
-verdict-above (Refused why) = above-33 (ascii "refused") refl
+verdict-above (Err why) = above-33 (ascii "refused") refl
 
 verdict-line : (v : Verdict) → verdict_text v ≡ line_of (verdict_word v) (verdict_cells v) ++ []
 unfolding cells_from
 verdict-line Accepted = refl
-verdict-line (Refused why) = sym (append-nil (refused_text why))
+verdict-line (Err why) = sym (append-nil (refused_text why))
 
 place-told : (p q : Place) → place_cells p ≡ place_cells q → p ≡ q
 place-told (One a) (One b) e = let f : a ≡ b = cc in ap One f
@@ -200,8 +195,8 @@ place-told (Two a c) (Two b d) e = let f : a ≡ b = cc in let g : c ≡ d = cc 
 
 pub refusal-told : (why other : Refusal) → refused_text why ≡ refused_text other → why ≡ other
 refusal-told why other e =
-    let x = line-then (ascii "refused") (ascii "refused") (verdict_cells (Refused why)) (verdict_cells (Refused other)) [] []
-    (verdict-above (Refused why)) (verdict-above (Refused other))
+    let x = line-then (ascii "refused") (ascii "refused") (verdict_cells (Err why)) (verdict_cells (Err other)) [] []
+    (verdict-above (Err why)) (verdict-above (Err other))
     (append-nil (refused_text why) ∙ e ∙ sym (append-nil (refused_text other))) in
     let cells = x.1 in
     let n : number_of why ≡ number_of other = cc in
@@ -210,14 +205,14 @@ refusal-told why other e =
 
 verdict-told : (v w : Verdict) → verdict_text v ≡ verdict_text w → v ≡ w
 verdict-told Accepted Accepted e = refl
-verdict-told Accepted (Refused why) e = absurd (omega (arith, same_head e))
-verdict-told (Refused why) Accepted e = absurd (omega (arith, same_head e))
-verdict-told (Refused why) (Refused other) e = ap Refused (refusal-told why other e)
+verdict-told Accepted (Err why) e = absurd (omega (arith, same_head e))
+verdict-told (Err why) Accepted e = absurd (omega (arith, same_head e))
+verdict-told (Err why) (Err other) e = ap Err (refusal-told why other e)
 
 -- the first characters of the words that may stand there: none of bank, node or file
-pub apart-end : (word : List ℕ) (f : Fault) (v : Verdict) → (ascii "fault" ≡ word → ⊥) → (ascii "accepted" ≡ word → ⊥) → (ascii "refused" ≡ word → ⊥)
+pub apart-end : (word : List ℕ) (f : Option ℕ) (v : Verdict) → (ascii "fault" ≡ word → ⊥) → (ascii "accepted" ≡ word → ⊥) → (ascii "refused" ≡ word → ⊥)
     → Apart word (fault_text f ++ verdict_text v)
-apart-end word NoFault v a b c =
+apart-end word None v a b c =
     record {
       other = verdict_word v;
       cells = verdict_cells v;
@@ -229,11 +224,11 @@ apart-end word NoFault v a b c =
   where
     by : (v : Verdict) → verdict_word v ≡ word → ⊥
     by Accepted = b
-    by (Refused why) = c
-apart-end word (AtNode n) v a b c =
+    by (Err why) = c
+apart-end word (Some n) v a b c =
     record { other = ascii "fault"; cells = number n ∷ []; rest = verdict_text v; above = above-33 (ascii "fault") refl; differs = a; is = refl }
 
-not-fault : (v : Verdict) (n : ℕ) (t : List ℕ) → verdict_text v ≡ fault_text (AtNode n) ++ t → ⊥
+not-fault : (v : Verdict) (n : ℕ) (t : List ℕ) → verdict_text v ≡ fault_text (Some n) ++ t → ⊥
 not-fault v n t e =
     by v
     (line-then (verdict_word v) (ascii "fault") (verdict_cells v) (number n ∷ []) [] t (verdict-above v)
@@ -241,15 +236,15 @@ not-fault v n t e =
   where
     by : (v : Verdict) → verdict_word v ≡ ascii "fault" → ⊥
     by Accepted f = omega (arith, same_head f)
-    by (Refused why) f = omega (arith, same_head f)
+    by (Err why) f = omega (arith, same_head f)
 
-pub end-told : (f g : Fault) (v w : Verdict) → fault_text f ++ verdict_text v ≡ fault_text g ++ verdict_text w → (f ≡ g) × (v ≡ w)
-end-told NoFault NoFault v w e = (refl, verdict-told v w e)
-end-told NoFault (AtNode n) v w e = absurd (not-fault v n (verdict_text w) e)
-end-told (AtNode m) NoFault v w e = absurd (not-fault w m (verdict_text v) (sym e))
-end-told (AtNode m) (AtNode n) v w e =
+pub end-told : (f g : Option ℕ) (v w : Verdict) → fault_text f ++ verdict_text v ≡ fault_text g ++ verdict_text w → (f ≡ g) × (v ≡ w)
+end-told None None v w e = (refl, verdict-told v w e)
+end-told None (Some n) v w e = absurd (not-fault v n (verdict_text w) e)
+end-told (Some m) None v w e = absurd (not-fault w m (verdict_text v) (sym e))
+end-told (Some m) (Some n) v w e =
     let x = line-then (ascii "fault") (ascii "fault") (number m ∷ []) (number n ∷ []) (verdict_text v) (verdict_text w)
     (above-33 (ascii "fault") refl) (above-33 (ascii "fault") refl) e in
     let cells = x.1 in
     let same : m ≡ n = cc in
-    (ap AtNode same, verdict-told v w x.2)
+    (ap Some same, verdict-told v w x.2)

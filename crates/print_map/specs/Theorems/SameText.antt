@@ -1,13 +1,11 @@
 -- The same text, the same map: the lines of two texts that are equal stand one to one for the same banks, the same nodes, the same node at fault and the same
 -- verdict. So what the program prints can be read back whole.
-use Rattle.std.specs.Prelude.{◌≡◌, List, [], ◌∷◌, ◌++◌, ℕ}
+use Rattle.std.specs.Prelude.{◌≡◌, List, [], ◌∷◌, ◌++◌, ℕ, Option, Result, Err, Ok}
 use Rattle.std.proofs.Math.Path.{refl}
 use Rattle.std.proofs.Common.{sym, ap, ◌∙◌, append_assoc, arith}
-use Rattle.prelude.specs.declared.Opt.{Opt}
 use Rattle.prelude.specs.declared.Refusal.{Refusal}
 use Rattle.form_fields.specs.Shape.{form_of}
-use Rattle.form_fields.specs.declared.Form.{Form}
-use Rattle.form_fields.specs.declared.Form.TheVariants.{Sound, Broken}
+use Rattle.form_fields.specs.declared.Shape.{Shape}
 use Rattle.print_text.specs.Ascii.{ascii}
 use Rattle.print_map.specs.Cells.{Cell, number, line_of}
 use Rattle.print_map.specs.Text.{file_line, banks_text, nodes_text, fault_text, verdict_text, refused_text, text_by, map_text}
@@ -90,13 +88,13 @@ same-text-same-map x y e =
 never_both : (why : Refusal) (x : Printed) → refused_text why ≡ text_of x → ⊥
 never_both why x e = omega (arith, same_head (e ∙ sections x))
 
-module _ (file other : List ℕ) (fill fill' : ℕ) (page page' : Opt) where
-  by-forms : (a b : Form) → form_of file ≡ a → form_of other ≡ b → text_by file fill page a ≡ text_by other fill' page' b
+module _ (file other : List ℕ) (fill fill' : ℕ) (page page' : Option ℕ) where
+  by-forms : (a b : Result Shape Refusal) → form_of file ≡ a → form_of other ≡ b → text_by file fill page a ≡ text_by other fill' page' b
       → SameFiles file other fill fill' page page'
-  by-forms (Broken why) (Broken so) f g e = w.broken why f (g ∙ ap Broken (sym (refusal-told why so e)))
-  by-forms (Broken why) (Sound t) f g e = absurd (never_both why (printed_of other fill' page' t) e)
-  by-forms (Sound s) (Broken so) f g e = absurd (never_both so (printed_of file fill page s) (sym e))
-  by-forms (Sound s) (Sound t) f g e = w.sound s t f g (same-text-same-map (printed_of file fill page s) (printed_of other fill' page' t) e)
+  by-forms (Err why) (Err so) f g e = w.broken why f (g ∙ ap Err (sym (refusal-told why so e)))
+  by-forms (Err why) (Ok t) f g e = absurd (never_both why (printed_of other fill' page' t) e)
+  by-forms (Ok s) (Err so) f g e = absurd (never_both so (printed_of file fill page s) (sym e))
+  by-forms (Ok s) (Ok t) f g e = w.sound s t f g (same-text-same-map (printed_of file fill page s) (printed_of other fill' page' t) e)
 
   -- Two files with the same text: both are broken, for one reason, or both are sound and have the same map.
   pub same-text-same-file : map_text file fill page ≡ map_text other fill' page' → SameFiles file other fill fill' page page'

@@ -7,22 +7,22 @@ use Rattle.record_write.specs.Cut.{blocks_in}
 use Rattle.print_records.proofs.Found.{never-refused, blocks-found}
 use Rattle.print_records.proofs.put_blocks.Goals as goal
 
-pub returns-in-Refused : goal.returns-in-Refused
-returns-in-Refused c =
+pub returns-in-Err : goal.returns-in-Err
+returns-in-Err c =
     let a = c.args in
     let p = c.requires in
     let g = c.get_blocks-found in
     absurd
     (never-refused a.offsets.now a.sizes.now a.block_offsets.now a.block_sizes.now p.block_offsets_len p.block_sizes_len p.sizes_value
-    g.result g.new.block_offsets g.new.block_sizes g.ensures c.in-Refused.why c.in-Refused.is)
+    g.result g.new.block_offsets g.new.block_sizes g.ensures c.in-Err.why c.in-Err.is)
 
-pub returns-in-Found : goal.returns-in-Found
-returns-in-Found c =
+pub returns-in-Ok : goal.returns-in-Ok
+returns-in-Ok c =
     let a = c.args in
     let p = c.requires in
     let g = c.get_blocks-found in
-    let told : blocks_in (take c.in-Found.count g.new.block_offsets) (take c.in-Found.count g.new.block_sizes)
+    let told : blocks_in (take c.in-Ok.count g.new.block_offsets) (take c.in-Ok.count g.new.block_sizes)
     ≡ blocks_of (spans_of a.offsets.now a.sizes.now) =
     blocks-found a.offsets.now a.sizes.now a.block_offsets.now a.block_sizes.now p.block_offsets_len p.block_sizes_len p.sizes_value
-    g.result g.new.block_offsets g.new.block_sizes g.ensures c.in-Found.count c.in-Found.is in
+    g.result g.new.block_offsets g.new.block_sizes g.ensures c.in-Ok.count c.in-Ok.is in
     rw (← told) c.put_records.ensures

@@ -5,4 +5,4 @@ use Rattle.print_records.proofs.put_whole.Goals as goal
 pub returns : goal.returns
 returns c =
     rw (← whole_is c.args.bits)
-    (rw c.block_count-n.ensures at c.put_records.ensures)
+    (rw c.min-n.ensures at c.put_records.ensures)

@@ -1,6 +1,6 @@
 -- What the program prints, said of its definition: a refusal is its line, exactly; of an accepted layout the file is good and gives the image's bytes at the
 -- addresses, and nothing else; with the whole image asked for, every bit of it.
-use Rattle.std.specs.Prelude.{◌≡◌, Bool, true, false, ◌&&◌, ◌↔◌, ℕ, ◌+◌, ◌-◌, ◌*◌, ◌/◌, ◌≤◌, ◌<◌, eqb, length, get_or}
+use Rattle.std.specs.Prelude.{◌≡◌, Bool, true, false, ◌&&◌, ◌↔◌, ℕ, ◌+◌, ◌-◌, ◌*◌, ◌/◌, ◌≤◌, ◌<◌, eqb, length, get_or, Option, Err, Result}
 use Rattle.std.proofs.Math.Path.{refl, ap}
 use Rattle.std.proofs.Common.{sym, subst, ◌∙◌, arith, eq-eqb, ne_eqb}
 use mathlib.Core.List.Memᴰ
@@ -9,7 +9,6 @@ use Rattle.std.proofs.lemmas.Bool.{eqb-false}
 use Rattle.std.proofs.lemmas.List.{length-map}
 use Rattle.prelude.specs.Laws.Bools.{both}
 use Rattle.prelude.specs.Pick.{pick}
-use Rattle.prelude.specs.declared.Opt.{Opt}
 use Rattle.prelude.specs.declared.Refusal.{Refusal}
 use Rattle.bankdef.specs.Check.{banks_of}
 use Rattle.bitvec.specs.Bits.{Bytes}
@@ -24,11 +23,9 @@ use Rattle.build_visits.specs.Items.{Item, items_of, image_of}
 use Rattle.build_visits.specs.Spans.{spans_of as spans_in, words, sizes as span_sizes}
 use Rattle.build_write.specs.Blank.{blank_of}
 use Rattle.build_write.specs.Laws.Blank.{blank-bytes}
-use Rattle.output.specs.declared.Build.TheVariants.{Done, Refused}
 use Rattle.form_fields.specs.Banks.{table_of}
 use Rattle.form_fields.specs.Shape.{form_of}
-use Rattle.form_fields.specs.declared.Form.{Form}
-use Rattle.form_fields.specs.declared.Form.TheVariants.{Broken}
+use Rattle.form_fields.specs.declared.Shape.{Shape}
 use Rattle.form_build.specs.Filed.{lists_in, file_output, output_by, file_visits}
 use Rattle.print_report.specs.Report.{lent_room}
 use Rattle.print_answer.specs.Answer.{image_room}
@@ -52,21 +49,22 @@ use Rattle.thm_records.specs.Laws.Copied.{columns, and-true}
 use Rattle.thm_records.specs.Theorems.Back.{hex-read, srec-read}
 use Rattle.print_records.specs.Text.{records_of, whole_blocks, blocks_by, answer_text, built_text, records_text}
 use Rattle.print_records.specs.declared.Wanted.{Wanted}
+use Rattle.output.specs.Built.{done_with}
 
 -- ---- refused
 
-module _ (w : Wanted) (file : List ℕ) (fill : ℕ) (page : Opt) where
+module _ (w : Wanted) (file : List ℕ) (fill : ℕ) (page : Option ℕ) where
   -- "A refusal prints `refused`, number and place, one space between", and nothing else.
-  pub refused-prints-its-line : (why : Refusal) → (file_output file fill page lent_room).build ≡ Refused why → records_text w file fill page ≡ refusal_text why
+  pub refused-prints-its-line : (why : Refusal) → (file_output file fill page lent_room).build ≡ Err why → records_text w file fill page ≡ refusal_text why
   unfolding records_text
   refused-prints-its-line why e =
       let o = file_output file fill page lent_room in
       ap (answer_text w (table_of file) (file_visits file o.passes) (lists_in file).values) e
 
   -- A broken file is refused with its field, whatever is asked for.
-  pub broken-prints-its-field : (why : Refusal) → form_of file ≡ Broken why → records_text w file fill page ≡ refusal_text why
+  pub broken-prints-its-field : (why : Refusal) → form_of file ≡ Err why → records_text w file fill page ≡ refusal_text why
   unfolding records_text
-  broken-prints-its-field why e = ap (λ (f : Form). built_text w file (output_by file fill page lent_room f)) e
+  broken-prints-its-field why e = ap (λ (f : Result Shape Refusal). built_text w file (output_by file fill page lent_room f)) e
 
   -- ---- accepted
 
@@ -87,7 +85,7 @@ module _ (w : Wanted) (file : List ℕ) (fill : ℕ) (page : Opt) where
       let spans = spans_in (file_visits file (file_output file fill page lent_room).passes) in
       blocks_by w.whole bits (words spans) (span_sizes spans)
 
-  module _ (k bits n : ℕ) (accepted : (file_output file fill page lent_room).build ≡ Done k bits n) where
+  module _ (k bits n : ℕ) (accepted : (file_output file fill page lent_room).build ≡ done_with k bits n) where
     pub accepted-prints : records_text w file fill page ≡ records_of w.format w.load (image_in bits) (blocks_in' bits)
     unfolding records_text
     accepted-prints =

@@ -13,12 +13,12 @@ use Rattle.print_rehex.specs.Laws.Turned.{fault-behind}
 use borrow.Author.Rules.{rules}
 use Rattle.print_rehex.proofs.put_fault.Goals as goal
 
-pub returns-in-At : goal.returns-in-At
-returns-in-At c =
-    let n = c.in-At.line in
+pub returns-in-Some : goal.returns-in-Some
+returns-in-Some c =
+    let n = c.in-Some.line in
     let read = read_text c.args.kind c.args.load c.args.source.now in
     let some = fault-behind read n
-    (sym c.in-At.is
+    (sym c.in-Some.is
     ∙ c.line_at_fault-fault.ensures.0) in
     let puts = c.put_line.ensures in
     let short = line-words (ascii "line") (n ∷ []) (search rules, tt) in

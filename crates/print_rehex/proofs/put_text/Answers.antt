@@ -8,9 +8,9 @@ returns-then-source-ge-SOURCE c =
     rw (too_long c.args.kind c.args.format c.args.load c.args.bytes.now c.args.source.now (omega (arith, c.if-source-ge-SOURCE.true)))
     c.put_refusal.ensures.stands
 
-pub returns-in-Refused : goal.returns-in-Refused
-returns-in-Refused c =
-    let told = rw c.in-Refused.is at
+pub returns-in-Err : goal.returns-in-Err
+returns-in-Err c =
+    let told = rw c.in-Err.is at
     c.turn-written.ensures in
     rw (
       not-long c.args.kind c.args.format c.args.load c.args.bytes.now c.args.source.now
@@ -23,11 +23,11 @@ returns-in-Refused c =
     )
     c.put_fault.ensures
 
-pub returns-in-Length : goal.returns-in-Length
-returns-in-Length c =
+pub returns-in-Ok : goal.returns-in-Ok
+returns-in-Ok c =
     rw (not-long c.args.kind c.args.format c.args.load c.args.bytes.now c.args.source.now
     (omega (
       arith,
       c.if-source-ge-SOURCE.false,
     )))
-    (rw c.in-Length.is at c.turn-written.ensures)
+    (rw c.in-Ok.is at c.turn-written.ensures)

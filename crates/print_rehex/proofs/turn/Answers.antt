@@ -10,15 +10,15 @@ use Rattle.print_rehex.specs.Rehex.{blocks_room}
 use Rattle.print_rehex.specs.Laws.Turned.{few, first-long, second-long, turns}
 use Rattle.print_rehex.proofs.turn.Goals as goal
 
-pub returns-in-Found : goal.returns-in-Found
-returns-in-Found c =
+pub returns-in-Ok : goal.returns-in-Ok
+returns-in-Ok c =
     let a = c.args in
     let d = c.read-found in
     let old : Lent = lent a.bytes.now a.offsets.now a.sizes.now (replicate 131072 0) in
     -- what was read
     let new : Lent = lent d.new.bytes d.new.offsets d.new.sizes d.new.scratch in
-    let n = c.in-Found.count in
-    let f = c.in-Found.is in
+    let n = c.in-Ok.count in
+    let f = c.in-Ok.is in
     let small : n ≤ blocks_room =
     few a.kind a.format a.load a.source.now old c.requires.bytes_len c.requires.offsets_len c.requires.sizes_len d.result new d.ensures n f in
     let long : length (take n new.offsets) ≡ n =

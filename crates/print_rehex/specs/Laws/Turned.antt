@@ -1,5 +1,5 @@
 -- What was read is written whole: no block of it is refused, and every file of it fits the text.
-use Rattle.std.specs.Prelude.{◌≡◌, refl, Bool, true, false, ◌&&◌, List, [], ◌++◌, ℕ, ◌≤◌, ◌<◌, length, take}
+use Rattle.std.specs.Prelude.{◌≡◌, refl, Bool, true, false, ◌&&◌, List, [], ◌++◌, ℕ, ◌≤◌, ◌<◌, length, take, Err, Result, Ok, None, Some}
 use Rattle.std.proofs.Common.{sym, ap₂, subst, ◌∙◌, append-nil, arith, le-leb}
 use Rattle.std.proofs.Math.Path.{ap}
 use Rattle.std.proofs.lemmas.Bool.{lt-leb}
@@ -10,13 +10,10 @@ use Rattle.prelude.specs.Pick.{pick}
 use Rattle.prelude.specs.declared.Refusal.{Refusal}
 use Rattle.prelude.specs.declared.Refusal.TheVariants.{Malformed}
 use Rattle.blocks.specs.declared.Block.{Block}
-use Rattle.blocks.specs.declared.Blocks.{Blocks}
-use Rattle.blocks.specs.declared.Blocks.TheVariants.{Found, Refused as Unread}
 use Rattle.print_text.specs.Lines.{refusal_text}
 use Rattle.prog_args.specs.Text.{Stands}
 use Rattle.record_scan.specs.Outcome.{fault_of}
 use Rattle.record_scan.specs.Reading.{Read, sound, faulty, read_text}
-use Rattle.record_scan.specs.declared.Fault.TheVariants.{Good, At}
 use Rattle.record_read.specs.Given.{filled}
 use Rattle.record_read.specs.Outcome.{Lent, answer_of, Reads}
 use Rattle.record_read.specs.Runs.{reach, blocks_given}
@@ -25,8 +22,6 @@ use Rattle.record_read.specs.Theorems.GivenLaws.{filled-long}
 use Rattle.record_write.specs.Checks.{all_parts, all_placed}
 use Rattle.record_write.specs.Cut.{blocks_in}
 use Rattle.record_write.specs.Text.{text_of}
-use Rattle.record_write.specs.declared.Written.{Written}
-use Rattle.record_write.specs.declared.Written.TheVariants.{Length, Refused}
 use Rattle.thm_record_room.specs.Records.{format_ok, records_or}
 use Rattle.thm_records.specs.Laws.Copied.{columns}
 use Rattle.thm_records.specs.Theorems.Copied.{read-parts, read-placed}
@@ -37,7 +32,7 @@ use Rattle.print_rehex.specs.Steps.{records_of, Records, Turns}
 
 -- the room that is lent
 module _ (format load : ℕ) (l : Lent) (hb : length l.bytes ≡ bytes_room) (ho : length l.offsets ≡ blocks_room) (hs : length l.sizes ≡ blocks_room) where
-  not-read : (read : Read) (why : Refusal) → answer_of load l read ≡ Unread why
+  not-read : (read : Read) (why : Refusal) → answer_of load l read ≡ Err why
       → turned format load l.bytes read ≡ refusal_text why ++ fault_text read
   not-read (faulty n) why e = ap (λ (w : Refusal). refusal_text w ++ fault_text (faulty n)) (same-refusal e)
   not-read (sound pieces) why e =
@@ -45,15 +40,15 @@ module _ (format load : ℕ) (l : Lent) (hb : length l.bytes ≡ bytes_room) (ho
       (pick (format_ok format load (blocks_given load pieces)) (text_of format load (filled load pieces l.bytes) (blocks_given load pieces))
       (refusal_text (Malformed 0))) why e ∙ sym (append-nil (refusal_text why))
 
-  pub unread : {read : Read} {r : Blocks} {new : Lent} {why : Refusal} → Reads load read l r new → r ≡ Unread why
+  pub unread : {read : Read} {r : Result ℕ Refusal} {new : Lent} {why : Refusal} → Reads load read l r new → r ≡ Err why
       → turned format load l.bytes read ≡ refusal_text why ++ fault_text read
   unread {read} {why = why} c e = not-read read why (sym c.answer ∙ e)
 
 -- ---- a file that is read
 
 module _ (kind format load : ℕ) (source : List ℕ) (l : Lent) (hb : length l.bytes ≡ bytes_room) (ho : length l.offsets ≡ blocks_room)
-    (hs : length l.sizes ≡ blocks_room) (r : Blocks) (new : Lent) (c : Reads load (read_text kind load source) l r new) (count : ℕ)
-    (found : r ≡ Found count) where
+    (hs : length l.sizes ≡ blocks_room) (r : Result ℕ Refusal) (new : Lent) (c : Reads load (read_text kind load source) l r new) (count : ℕ)
+    (found : r ≡ Ok count) where
   h : Held load l (read_text kind load source) count new
   h = held load l (read_text kind load source) r new c count found
 
@@ -113,24 +108,24 @@ module _ (kind format load : ℕ) (source : List ℕ) (l : Lent) (hb : length l.
   pub none-behind : fault_text (read_text kind load source) ≡ []
   none-behind = ap fault_text h.good
 
-  pub turns : (w : Written) (old out : List ℕ) → Records format load new.bytes (blocks_in (take count new.offsets) (take count new.sizes)) old w out
+  pub turns : (w : Result ℕ Refusal) (old out : List ℕ) → Records format load new.bytes (blocks_in (take count new.offsets) (take count new.sizes)) old w out
       → Turns format load l.bytes (read_text kind load source) old w out
-  turns (Length n) old out p = subst (λ (t : List ℕ). Stands t old n out) text-is p
-  turns (Refused why) old out p = (sym text-is ∙ p.0 ∙ sym (append-nil (refusal_text why)) ∙ ap (λ (t : List ℕ). refusal_text why ++ t) (sym none-behind), p.1)
+  turns (Ok n) old out p = subst (λ (t : List ℕ). Stands t old n out) text-is p
+  turns (Err why) old out p = (sym text-is ∙ p.0 ∙ sym (append-nil (refusal_text why)) ∙ ap (λ (t : List ℕ). refusal_text why ++ t) (sym none-behind), p.1)
 
 -- ---- the line at fault
 
-not_good : {n : ℕ} → Good ≡ At n → ⊥
+not_good : {n : ℕ} → None ≡ Some n → ⊥
 not_good e = unlike cc
 
-same_line : {m n : ℕ} → At m ≡ At n → m ≡ n
+same_line : {m n : ℕ} → Some m ≡ Some n → m ≡ n
 same_line e = cc
 
-pub good-behind : (read : Read) → Good ≡ fault_of read → fault_text read ≡ []
+pub good-behind : (read : Read) → None ≡ fault_of read → fault_text read ≡ []
 good-behind (sound pieces) e = refl
 good-behind (faulty n) e = absurd (not_good e)
 
-pub fault-behind : (read : Read) (n : ℕ) → At n ≡ fault_of read → fault_text (faulty n) ≡ fault_text read
+pub fault-behind : (read : Read) (n : ℕ) → Some n ≡ fault_of read → fault_text (faulty n) ≡ fault_text read
 fault-behind (sound pieces) n e = absurd (not_good (sym e))
 fault-behind (faulty m) n e = ap (λ (k : ℕ). fault_text (faulty k)) (same_line e)
 

@@ -1,19 +1,17 @@
 -- An accepted build fits the room that it was given, and each number of a file's rows is within an offer's limits.
-use Rattle.std.specs.Prelude.{◌≡◌, List, [], ◌∷◌, ◌++◌, ltb, length, get_or, take, drop}
-use Rattle.std.proofs.Common.{sym, ◌∙◌, arith, get_or-drop, ltb-false}
+use Rattle.std.specs.Prelude.{◌≡◌, List, [], ◌∷◌, ◌++◌, ltb, length, get_or, take, drop, Result, Err, Ok}
+use Rattle.std.proofs.Common.{sym, ap, ◌∙◌, arith, get_or-drop, ltb-false}
 use Prim.Native.Nat.{ℕ, zero, suc, ◌+◌, ◌*◌, ◌≤◌, zero-le}
 use Rattle.prelude.specs.Laws.Bools.{unlike}
 use Rattle.prelude.specs.Limits.{max_position}
 use Rattle.prelude.specs.Laws.Pick.{pick_true, pick-false}
 use Rattle.prelude.specs.declared.Refusal.{Refusal}
 use Rattle.prelude.specs.declared.Refusal.TheVariants.{TooShort}
-use Rattle.resolver.specs.declared.Settled.{Settled}
-use Rattle.resolver.specs.declared.Settled.TheVariants.{At, Refused as Unsettled}
 use Rattle.build_visits.specs.Items.{items_of, length_of}
 use Rattle.build_plan.specs.Placing.{Placed, holds, stops, placed_all}
 use Rattle.build_visits.specs.Spans.{spans_of}
 use Rattle.output.specs.Output.{Input, Room, room_for, placed_build, settled_build, visits_of, closed_of, fill_of}
-use Rattle.output.specs.declared.Build.TheVariants.{Done, Refused}
+use Rattle.output.specs.Built.{done_with, length_done, spans_done}
 use Rattle.form_fields.specs.Laws.Fields.{by-test}
 use Rattle.form_fields.specs.Columns.{column}
 use Rattle.form_fields.specs.Lists.{cells}
@@ -52,20 +50,20 @@ module _ (read : ℕ → ℕ) (small : (at : ℕ) → read at ≤ max_position) 
 
 -- ---- the room
 
-not_done : (why : Refusal) (k bits n : ℕ) → Refused why ≡ Done k bits n → ⊥
+not_done : (why : Refusal) (k bits n : ℕ) → Err why ≡ done_with k bits n → ⊥
 not_done why k bits n e = unlike cc
 
-done-bits : (k bits n k₁ bits₁ n₁ : ℕ) → Done k₁ bits₁ n₁ ≡ Done k bits n → bits₁ ≡ bits
-done-bits k bits n k₁ bits₁ n₁ e = cc
+done-bits : (k bits n k₁ bits₁ n₁ : ℕ) → done_with k₁ bits₁ n₁ ≡ done_with k bits n → bits₁ ≡ bits
+done-bits k bits n k₁ bits₁ n₁ e = ap length_done e
 
-done-spans : (k bits n k₁ bits₁ n₁ : ℕ) → Done k₁ bits₁ n₁ ≡ Done k bits n → n₁ ≡ n
-done-spans k bits n k₁ bits₁ n₁ e = cc
+done-spans : (k bits n k₁ bits₁ n₁ : ℕ) → done_with k₁ bits₁ n₁ ≡ done_with k bits n → n₁ ≡ n
+done-spans k bits n k₁ bits₁ n₁ e = ap spans_done e
 
 module _ (room : Room) (k bits n : ℕ) where
   abbrev pub Fits : ℕ → Type 0
   Fits n₁ = (bits ≤ 8 * room.image) × (n ≤ room.spans) × (n ≡ n₁)
 
-  fits-room : (k₁ bits₁ n₁ : ℕ) → room_for room k₁ bits₁ n₁ ≡ Done k bits n → Fits n₁
+  fits-room : (k₁ bits₁ n₁ : ℕ) → room_for room k₁ bits₁ n₁ ≡ done_with k bits n → Fits n₁
   fits-room k₁ bits₁ n₁ e =
       by-test (ltb (8 * room.image) bits₁)
       (λ y. absurd (not_done (TooShort 0) k bits n (sym (pick_true _ _ y) ∙ e)))
@@ -80,12 +78,12 @@ module _ (room : Room) (k bits n : ℕ) where
       let hb = ltb-false room.spans n₁ b in
       (omega (arith, ha, eb), omega (arith, hb, en), sym en)))
 
-  fits-placed : (k₁ bits₁ n₁ : ℕ) (q : Placed) → placed_build room k₁ bits₁ n₁ q ≡ Done k bits n → Fits n₁
+  fits-placed : (k₁ bits₁ n₁ : ℕ) (q : Placed) → placed_build room k₁ bits₁ n₁ q ≡ done_with k bits n → Fits n₁
   fits-placed k₁ bits₁ n₁ (holds stored) e = fits-room k₁ bits₁ n₁ e
   fits-placed k₁ bits₁ n₁ (stops why) e = absurd (not_done why k bits n e)
 
-  pub fits-settled : (b : Input) (passes : ℕ) (s : Settled) → settled_build b room passes s ≡ Done k bits n → Fits (length (spans_of (visits_of b passes)))
-  fits-settled b passes (Unsettled why) e = absurd (not_done why k bits n e)
-  fits-settled b passes (At k₁) e =
+  pub fits-settled : (b : Input) (passes : ℕ) (s : Result ℕ Refusal) → settled_build b room passes s ≡ done_with k bits n → Fits (length (spans_of (visits_of b passes)))
+  fits-settled b passes (Err why) e = absurd (not_done why k bits n e)
+  fits-settled b passes (Ok k₁) e =
       let vs = visits_of b passes in
       fits-placed k₁ (length_of (fill_of b) (items_of vs)) (length (spans_of vs)) (placed_all (closed_of b) vs) e

@@ -1,10 +1,8 @@
 -- Laws that Theorems/Blocks rests on.
-use Rattle.std.specs.Prelude.{◌≡◌, refl, Bool, true, false, List, [], ◌∷◌, ◌++◌, ℕ, ◌+◌, ◌≤◌, leb, eqb}
+use Rattle.std.specs.Prelude.{◌≡◌, refl, Bool, true, false, List, [], ◌∷◌, ◌++◌, ℕ, ◌+◌, ◌≤◌, leb, eqb, Option, None, Some}
 use Rattle.std.proofs.Common.{arith, leb-true, eqb-true}
 use Rattle.prelude.specs.Limits.{max_offer, max_position}
 use Rattle.prelude.specs.Pick.{pick}
-use Rattle.prelude.specs.declared.Offset.{Offset}
-use Rattle.prelude.specs.declared.Offset.TheVariants.{None, At}
 use Rattle.sort.specs.Agree.{All}
 use Rattle.blocks.specs.Laws.Acceptable.{both_true}
 use Rattle.blocks.specs.Spans.{Span, offset_within, within, all_within}
@@ -29,14 +27,14 @@ either-near false l m hl hm = hm
 kept_near : (b : Block) → Near b → All Near (kept b)
 kept_near b h = either-near (eqb b.size 0) [] (b ∷ []) tt (h, tt)
 
-closed-near : (b : Block) (o : Offset) → Near b → All Near (closed b o)
+closed-near : (b : Block) (o : Option ℕ) → Near b → All Near (closed b o)
 closed-near b None h = tt
-closed-near b (At o) h = either-near (eqb o (end_of b)) [] (kept b) tt (kept_near b h)
+closed-near b (Some o) h = either-near (eqb o (end_of b)) [] (kept b) tt (kept_near b h)
 
 -- a block that a span joins ends where the span does
-joined-near : (b : Block) (o : Offset) (size : ℕ) → Near b → offset_within o ≡ true → size ≤ max_position → Near (joined b o size)
+joined-near : (b : Block) (o : Option ℕ) (size : ℕ) → Near b → offset_within o ≡ true → size ≤ max_position → Near (joined b o size)
 joined-near b None size h w s = h
-joined-near b (At o) size h w s = go (eqb o (end_of b)) refl
+joined-near b (Some o) size h w s = go (eqb o (end_of b)) refl
   where
     go : (t : Bool) → eqb o (end_of b) ≡ t → Near (pick t (block b.origin (b.size + size)) (block o size))
     go true e = omega (arith, eqb-true o (end_of b) e, leb-true o max_offer w, s)

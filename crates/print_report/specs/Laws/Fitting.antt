@@ -1,15 +1,11 @@
 -- The spans of a layout whose numbers are within document 01's table are within an offer's limits, so the blocks' call accepts them.
-use Rattle.std.specs.Prelude.{◌≡◌, refl, Bool, true, false, eqb, length, get_or}
+use Rattle.std.specs.Prelude.{◌≡◌, refl, Bool, true, false, eqb, length, get_or, Option, None, Some}
 use Rattle.std.proofs.Common.{sym, subst, ◌∙◌, arith, le-leb, leb-true, eq-eqb}
 use mathlib.Core.List.{List, [], ◌∷◌, ◌++◌, append-nil}
 use Prim.Native.Nat.{ℕ, zero, suc, ◌+◌, ◌-◌, ◌*◌, ◌≤◌, min, zero-le}
 use Rattle.std.proofs.lemmas.List.{length-map}
 use Rattle.prelude.specs.Limits.{max_nodes, max_offer, max_position}
 use Rattle.prelude.specs.Pick.{pick}
-use Rattle.prelude.specs.declared.Offset.{Offset}
-use Rattle.prelude.specs.declared.Offset.TheVariants.{None as Nowhere, At as Out}
-use Rattle.prelude.specs.declared.Opt.{Opt}
-use Rattle.prelude.specs.declared.Opt.TheVariants.{None, Some}
 use Rattle.bankdef.specs.Check.{no_bank}
 use Rattle.bankdef.specs.declared.Bankdef.{Bankdef}
 use Rattle.iter.specs.Address.{out_at}
@@ -49,9 +45,9 @@ fit-last : (l : List Span) (s : Span) → AllFit l → Fit s → AllFit (l ++ s 
 fit-last [] s h f = (f, tt)
 fit-last (x ∷ l) s h f = (h.0, fit-last l s h.1 f)
 
-same-offset : (o : Offset) → offset_within o ≡ true → offset_of (word_of o) ≡ o
-same-offset Nowhere h = refl
-same-offset (Out o) h = at-of-word o (omega (arith, leb-true o max_offer h))
+same-offset : (o : Option ℕ) → offset_within o ≡ true → offset_of (word_of o) ≡ o
+same-offset None h = refl
+same-offset (Some o) h = at-of-word o (omega (arith, leb-true o max_offer h))
 
 all-within : (l : List Span) → AllFit l → all_within (spans_of (words l) (sizes l)) ≡ true
 unfolding spans_of all_within
@@ -67,7 +63,7 @@ fit-acceptable l h few =
 
 -- ---- the spans of a row are within the limits
 
-out-fits : (o : Opt) (position : ℕ) → OffsetFits o → position ≤ max_position → offset_within (out_at o position) ≡ true
+out-fits : (o : Option ℕ) (position : ℕ) → OffsetFits o → position ≤ max_position → offset_within (out_at o position) ≡ true
 out-fits None position h k = refl
 out-fits (Some o) position h k = le-leb (o + position) max_offer (omega (arith, h, k))
 

@@ -1,23 +1,18 @@
 -- Laws that Theorems/Places rests on.
 use Prim.Native.Nat.{ℕ, zero, suc, ◌+◌, ◌-◌, ◌*◌, ◌≤◌}
-use Rattle.std.specs.Prelude.{◌≡◌, refl, Bool, true, false, not, ◌&&◌, List, [], ◌∷◌, ltb, eqb, length, get_or}
+use Rattle.std.specs.Prelude.{◌≡◌, refl, Bool, true, false, not, ◌&&◌, List, [], ◌∷◌, ltb, eqb, length, get_or, Err, Result, Ok, Option, None, Some}
 use Rattle.std.proofs.Common.{sym, subst, inl, inr, leb-true, ltb-true, length-take}
 use native.Mathlib.Omega.{arith}
 use Rattle.prelude.specs.Laws.Bools.{both}
 use Rattle.prelude.specs.Limits.{max_offer, max_position}
 use Rattle.prelude.specs.Pick.{pick}
-use Rattle.prelude.specs.declared.Offset.{Offset}
-use Rattle.prelude.specs.declared.Offset.TheVariants.{None as Nowhere, At as Out}
 use Rattle.prelude.specs.declared.Refusal.{Refusal}
 use Rattle.prelude.specs.declared.Refusal.TheVariants.{Malformed, Unresolved, DefaultBank, PastBank, NoOutput, Overlap, StoreFull, TooShort, OffProfile}
-use Rattle.prelude.specs.declared.Verdict.{Verdict}
-use Rattle.prelude.specs.declared.Verdict.TheVariants.{Accepted, Refused}
+use Rattle.prelude.specs.Verdict.{Accepted, Verdict}
 use Rattle.bankdef.specs.Check.{check_of}
 use Rattle.bankdef.specs.Refused.{Decided, count, number, pair, sound}
 use Rattle.bankdef.specs.Theorems.Refused.{decided}
 use Rattle.bankdef.specs.declared.Bankdefs.{Bankdefs}
-use Rattle.iter.specs.declared.Moved.{Moved}
-use Rattle.iter.specs.declared.Moved.TheVariants.{To, Refused as Stopped}
 use Rattle.nodes.specs.Kinds.{size_of}
 use Rattle.nodes.specs.declared.Node.{Node}
 use Rattle.iter.specs.declared.Pos.{Pos}
@@ -30,11 +25,7 @@ use Rattle.resolver.specs.Once.{Program, node, walk_to, bank_record}
 use Rattle.resolver.specs.Passes.{program, row_of_pass, pass_at, last_of, resolution_of, first}
 use Rattle.resolver.specs.Laws.StepRefusals.{Refusable, step-refusals}
 use Rattle.resolver.specs.declared.Choices.{Choices}
-use Rattle.resolver.specs.declared.Pass.{Pass}
-use Rattle.resolver.specs.declared.Pass.TheVariants.{State, Refused as Failed}
 use Rattle.resolver.specs.declared.Resolution.{Resolution}
-use Rattle.resolver.specs.declared.Settled.{Settled}
-use Rattle.resolver.specs.declared.Settled.TheVariants.{At, Refused as Unsettled}
 use Rattle.overlap_checker.specs.Ascending.{Ascending}
 use Rattle.overlap_checker.specs.Entries.{entry_at, entry_before}
 use Rattle.overlap_checker.specs.Folds.{state_after}
@@ -51,13 +42,13 @@ use Rattle.build_profile.specs.Rules.{bank_aligned, on_page, whole_pages, unit_k
 use Rattle.blocks.specs.Spans.{offset_within}
 use Rattle.build_visits.specs.Items.{is_written}
 use Rattle.output.specs.Output.{Room, placed_build}
+use Rattle.output.specs.declared.Built.{Built}
+use Rattle.output.specs.Built.{done_with}
 use Rattle.build_plan.specs.Placing.{is_placed, is_offered, bits_at, uses_default, ends_past, lacks_output, checked, answered, placing}
 use Rattle.build_plan.specs.Placing.{verdict_seen, verdict_on, offer_of}
 use Rattle.build_plan.specs.Placing.{Placed, holds, stops, placed_if, placed_next, placed_from, placed_all}
 use Rattle.build_plan.specs.Laws.PlacingLaws.{placed-last}
 use Rattle.build_visits.specs.Visits.{visit_at, visits_to}
-use Rattle.output.specs.declared.Build.{Build}
-use Rattle.output.specs.declared.Build.TheVariants.{Done, Refused as Unbuilt}
 use Rattle.build_visits.specs.declared.Visit.{Visit}
 use Rattle.print_report.specs.Blocks.{farthest}
 use Rattle.print_report.specs.Laws.Fitting.{small, span_fits}
@@ -73,7 +64,7 @@ choice-near false v w a b = b
 
 first-near : (v w : Verdict) → Near v → Near w → Near (first_of v w)
 first-near Accepted w a b = b
-first-near (Refused why) w a b = a
+first-near (Err why) w a b = a
 
 -- ---- the table and the lists
 
@@ -86,25 +77,25 @@ table-decided h (sound e f g) = none-near
 table-near : (t : Bankdefs) → t.len ≤ max_position → Near (check_of t)
 table-near t h = table-decided h (decided t)
 
-malformed-near : (i : ℕ) → i ≤ max_position → Near (Refused (Malformed i))
+malformed-near : (i : ℕ) → i ≤ max_position → Near (Err (Malformed i))
 malformed-near i h = record { near = omega arith }
 
 nodes-near : (banks : ℕ) (l : Lists) (n : ℕ) → n ≤ max_position → Near (nodes_to banks l n)
 unfolding nodes_to
 nodes-near banks l zero h = none-near
 nodes-near banks l (suc n) h =
-    first-near (nodes_to banks l n) (pick (node_fault banks l n) (Refused (Malformed n)) Accepted) (nodes-near banks l n (omega arith))
-    (choice-near (node_fault banks l n) (Refused (Malformed n)) Accepted (malformed-near n (omega arith)) none-near)
+    first-near (nodes_to banks l n) (pick (node_fault banks l n) (Err (Malformed n)) Accepted) (nodes-near banks l n (omega arith))
+    (choice-near (node_fault banks l n) (Err (Malformed n)) Accepted (malformed-near n (omega arith)) none-near)
 
 lists-near : (banks : ℕ) (l : Lists) (fill : ℕ) → length l.kinds ≤ max_position → Near (lists_of banks l fill)
 unfolding lists_of
 lists-near banks l fill h =
     let nodes = nodes_to banks l (length l.kinds) in
-    let known = pick (known_fill fill) nodes (Refused (Malformed 3)) in
-    let rows = pick (row_count_sound l) known (Refused (Malformed 1)) in
-    choice-near (node_count_sound l) rows (Refused (Malformed 0))
-    (choice-near (row_count_sound l) known (Refused (Malformed 1))
-    (choice-near (known_fill fill) nodes (Refused (Malformed 3)) (nodes-near banks l (length l.kinds) h) (malformed-near 3 (omega arith)))
+    let known = pick (known_fill fill) nodes (Err (Malformed 3)) in
+    let rows = pick (row_count_sound l) known (Err (Malformed 1)) in
+    choice-near (node_count_sound l) rows (Err (Malformed 0))
+    (choice-near (row_count_sound l) known (Err (Malformed 1))
+    (choice-near (known_fill fill) nodes (Err (Malformed 3)) (nodes-near banks l (length l.kinds) h) (malformed-near 3 (omega arith)))
     (malformed-near 1 (omega arith)))
     (malformed-near 0 (omega arith))
 
@@ -121,7 +112,7 @@ first-within test from (suc n) = go (test from) (first-within test (suc from) n)
 
 ruled-near : (rule : ℕ) (keeps : ℕ → Bool) (n : ℕ) → rule ≤ 6 → n ≤ max_position → Near (ruled rule keeps n)
 ruled-near rule keeps n r h =
-    choice-near (all keeps n) Accepted (Refused (OffProfile rule (first_broken keeps n))) none-near
+    choice-near (all keeps n) Accepted (Err (OffProfile rule (first_broken keeps n))) none-near
     (record { near = omega (arith, first-within (λ k. not (keeps k)) 0 n) })
 
 module _ (banks : Bankdefs) (l : Lists) (few-banks : banks.len ≤ max_position) (few-nodes : length l.kinds ≤ max_position) where
@@ -147,9 +138,9 @@ stopped-near : {i : ℕ} {why : Refusal} → i ≤ max_position → Refusable i 
 stopped-near h (inl e) = rw e (omega arith)
 stopped-near h (inr e) = rw e (omega arith)
 
-abbrev pub settled_sum : Settled → ℕ
-settled_sum (At k) = 0
-settled_sum (Unsettled why) = sum_of why
+abbrev pub settled_sum : Result ℕ Refusal → ℕ
+settled_sum (Ok k) = 0
+settled_sum (Err why) = sum_of why
 
 module _ (banks : Bankdefs) (l : Lists) (few-banks : banks.len ≤ max_position) (few-nodes : length l.kinds ≤ max_position) where
   met-near : (row : Row) (is_last : Bool) (i : ℕ) (why : Refusal) → i ≤ max_position → StopsAt (program banks l) row is_last i why → sum_of why ≤ farthest
@@ -157,18 +148,18 @@ module _ (banks : Bankdefs) (l : Lists) (few-banks : banks.len ≤ max_position)
       stopped-near h (step-refusals (def_at (program banks l) row i) (node (program banks l) row i) (walk_to (program banks l) row i) why e)
   met-near row is_last i why h (inr e) = rw e.2 (omega arith)
 
-  pass-near : (n : ℕ) (is_last : Bool) (why : Refusal) → pass_at banks l n is_last ≡ Failed why → sum_of why ≤ farthest
+  pass-near : (n : ℕ) (is_last : Bool) (why : Refusal) → pass_at banks l n is_last ≡ Err why → sum_of why ≤ farthest
   pass-near n is_last why e =
       let m = first-met (program banks l) (row_of_pass l n) (row_of_pass l (n - 1)) (eqb n 1) is_last why e in
       met-near (row_of_pass l n) is_last m.0 why (omega (arith, m.1.listed)) m.1.here
 
-  last-near : (k n : ℕ) (x : Pass) → pass_at banks l n true ≡ x → settled_sum (last_of k x) ≤ farthest
-  last-near k n (State s) e = either (eqb s 2)
+  last-near : (k n : ℕ) (x : Result ℕ Refusal) → pass_at banks l n true ≡ x → settled_sum (last_of k x) ≤ farthest
+  last-near k n (Ok s) e = either (eqb s 2)
     where
-      either : (t : Bool) → settled_sum (pick t (Unsettled Unresolved) (At k)) ≤ farthest
+      either : (t : Bool) → settled_sum (pick t (Err Unresolved) (Ok k)) ≤ farthest
       either true = omega arith
       either false = omega arith
-  last-near k n (Failed why) e = pass-near n true why e
+  last-near k n (Err why) e = pass-near n true why e
 
   resolution-near : (m : ℕ) → settled_sum (resolution_of banks l m).settled ≤ farthest
   resolution-near m = from (ends (pass_at banks l) m)
@@ -179,7 +170,7 @@ module _ (banks : Bankdefs) (l : Lists) (few-banks : banks.len ≤ max_position)
 
   unless-near : (v : Verdict) (r : Resolution) → Near v → settled_sum r.settled ≤ farthest → settled_sum (unless v r).settled ≤ farthest
   unless-near Accepted r a b = b
-  unless-near (Refused why) r a b = a.near
+  unless-near (Err why) r a b = a.near
 
   pub layout-near : (choices : Choices) → settled_sum (layout_of banks l choices).settled ≤ farthest
   unfolding layout_of
@@ -222,24 +213,24 @@ named-near s e f w =
     (choice-entry (clashes e (entry_at l i)) (entry_at l i) (entry_before l i) (entry-near 0 l f.up i) (before-near l f.up i))
     (omega (arith, lowest-near e s.marks, w.0, w.1))
 
-answered-near : (s : store.State) (n : ℕ) (t : Bool) (out : Offset) (node : Node) → Fits s → n ≤ max_position → offset_within out ≡ true
+answered-near : (s : store.State) (n : ℕ) (t : Bool) (out : Option ℕ) (node : Node) → Fits s → n ≤ max_position → offset_within out ≡ true
     → node.number ≤ max_position → Near (answered s n (pick t (bits_at out node) []))
 unfolding tries
 answered-near s n false out node f h w g = none-near
-answered-near s n true Nowhere node f h w g = none-near
-answered-near s n true (Out o) node f h w g =
+answered-near s n true None node f h w g = none-near
+answered-near s n true (Some o) node f h w g =
     let e = interval o node.number in
     let lacks = lacks_room (length s.intervals) (length s.marks) e.size in
-    choice-near (meets s e) (Refused (Overlap (named_in s e).position (named_in s e).size)) (pick lacks (Refused (StoreFull n)) Accepted)
+    choice-near (meets s e) (Err (Overlap (named_in s e).position (named_in s e).size)) (pick lacks (Err (StoreFull n)) Accepted)
     (record { near = named-near s e f (leb-true o max_offer w, g) })
-    (choice-near lacks (Refused (StoreFull n)) Accepted (record { near = omega arith }) none-near)
+    (choice-near lacks (Err (StoreFull n)) Accepted (record { near = omega arith }) none-near)
 
-stored-fits : (s : store.State) (t : Bool) (out : Offset) (node : Node) → Fits s → offset_within out ≡ true → node.number ≤ max_position
+stored-fits : (s : store.State) (t : Bool) (out : Option ℕ) (node : Node) → Fits s → offset_within out ≡ true → node.number ≤ max_position
     → Fits (state_after s (pick t (bits_at out node) []))
 unfolding state_after
 stored-fits s false out node f w g = f
-stored-fits s true Nowhere node f w g = f
-stored-fits s true (Out o) node f w g = fits_after s (interval o node.number) (leb-true o max_offer w, g) f
+stored-fits s true None node f w g = f
+stored-fits s true (Some o) node f w g = fits_after s (interval o node.number) (leb-true o max_offer w, g) f
 
 module _ (closed : Bool) (s : store.State) (v : Visit) (f : Fits s) (h : v.node.index ≤ max_position) (w : offset_within v.out ≡ true)
     (g : v.node.number ≤ max_position) where
@@ -248,11 +239,11 @@ module _ (closed : Bool) (s : store.State) (v : Visit) (f : Fits s) (h : v.node.
   checked-near at =
       let nowhere = is_written v.node && lacks_output v.out in
       let past = ends_past v.def.size (at.position + size_of v.node) in
-      let eleven = pick nowhere (Refused (NoOutput v.node.index)) Accepted in
-      let ten = pick past (Refused (PastBank v.node.index)) eleven in
-      choice-near (uses_default closed v.bank) (Refused (DefaultBank v.node.index)) ten (record { near = omega arith })
-      (choice-near past (Refused (PastBank v.node.index)) eleven (record { near = omega arith })
-      (choice-near nowhere (Refused (NoOutput v.node.index)) Accepted (record { near = omega arith }) none-near))
+      let eleven = pick nowhere (Err (NoOutput v.node.index)) Accepted in
+      let ten = pick past (Err (PastBank v.node.index)) eleven in
+      choice-near (uses_default closed v.bank) (Err (DefaultBank v.node.index)) ten (record { near = omega arith })
+      (choice-near past (Err (PastBank v.node.index)) eleven (record { near = omega arith })
+      (choice-near nowhere (Err (NoOutput v.node.index)) Accepted (record { near = omega arith }) none-near))
 
   placing-near : (at : Pos) → Near (placing closed v.bank v.def s v.node at v.out)
   placing-near at =
@@ -274,10 +265,10 @@ module _ (p : Program) (row : Row) (closed : Bool) (banks : OffsetsFit p.banks) 
   visit-near : (s : store.State) (i : ℕ) → Fits s → i ≤ max_position → Near (verdict_on closed s (visit_at p row i))
   visit-near s i f h = go (seen_at p row i) refl
     where
-      go : (seen : Moved) → seen_at p row i ≡ seen
+      go : (seen : Result Pos Refusal) → seen_at p row i ≡ seen
           → Near (verdict_seen closed (visit_at p row i).bank (visit_at p row i).def s (visit_at p row i).node (visit_at p row i).out seen)
-      go (To at) e = placing-near closed s (visit_at p row i) f h (out_within i) (small p row banks initial numbers i) at
-      go (Stopped why) e = record { near = stopped-near h (step-refusals (def_at p row i) (node p row i) (walk_to p row i) why e) }
+      go (Ok at) e = placing-near closed s (visit_at p row i) f h (out_within i) (small p row banks initial numbers i) at
+      go (Err why) e = record { near = stopped-near h (step-refusals (def_at p row i) (node p row i) (walk_to p row i) why e) }
 
   next-near : (i : ℕ) → i ≤ max_position → (q : Placed) → PlacedNear q → PlacedNear (placed_next closed (visit_at p row i) q)
   next-near i h (stops why) n = n
@@ -287,7 +278,7 @@ module _ (p : Program) (row : Row) (closed : Bool) (banks : OffsetsFit p.banks) 
     where
       go : (v : Verdict) (t : store.State) → Near v → Fits t → PlacedNear (placed_if v t)
       go Accepted t a b = b
-      go (Refused why) t a b = a.near
+      go (Err why) t a b = a.near
 
   pub placed-near : (n : ℕ) → n ≤ max_position → PlacedNear (placed_all closed (visits_to p row n))
   unfolding visits_to placed_from
@@ -296,13 +287,13 @@ module _ (p : Program) (row : Row) (closed : Bool) (banks : OffsetsFit p.banks) 
       rw (placed-last closed (holds store.empty_state) (visits_to p row n) (visit_at p row n))
       (next-near n (omega arith) (placed_all closed (visits_to p row n)) (placed-near n (omega arith)))
 
-choice-build : (t : Bool) (x y : Build) → build_sum x ≤ farthest → build_sum y ≤ farthest → build_sum (pick t x y) ≤ farthest
+choice-build : (t : Bool) (x y : Result Built Refusal) → build_sum x ≤ farthest → build_sum y ≤ farthest → build_sum (pick t x y) ≤ farthest
 choice-build true x y a b = a
 choice-build false x y a b = b
 
 pub room-near : (room : Room) (k bits spans : ℕ) (q : Placed) → PlacedNear q → build_sum (placed_build room k bits spans q) ≤ farthest
 room-near room k bits spans (stops why) h = h
 room-near room k bits spans (holds s) h =
-    let fits = pick (ltb room.spans spans) (Unbuilt (TooShort 1)) (Done k bits spans) in
-    choice-build (ltb (8 * room.image) bits) (Unbuilt (TooShort 0)) fits (omega arith)
-    (choice-build (ltb room.spans spans) (Unbuilt (TooShort 1)) (Done k bits spans) (omega arith) (omega arith))
+    let fits = pick (ltb room.spans spans) (Err (TooShort 1)) (done_with k bits spans) in
+    choice-build (ltb (8 * room.image) bits) (Err (TooShort 0)) fits (omega arith)
+    (choice-build (ltb room.spans spans) (Err (TooShort 1)) (done_with k bits spans) (omega arith) (omega arith))

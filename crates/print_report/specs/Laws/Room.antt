@@ -1,5 +1,5 @@
 -- Laws that Theorems/Room rests on.
-use Rattle.std.specs.Prelude.{◌≡◌, Bool, true, false, List, ℕ, ◌+◌, ◌*◌, ◌≤◌, ◌<◌, ltb, length}
+use Rattle.std.specs.Prelude.{◌≡◌, Bool, true, false, List, ℕ, ◌+◌, ◌*◌, ◌≤◌, ◌<◌, ltb, length, Result, Err, Ok}
 use Rattle.std.proofs.Common.{ap, subst, arith}
 use Rattle.prelude.specs.Laws.Bools.{unlike}
 use Rattle.prelude.specs.Limits.{max_position}
@@ -12,14 +12,12 @@ use Rattle.prelude.specs.declared.Refusal.{Refusal}
 use Rattle.prelude.specs.declared.Refusal.TheVariants.{TooShort as ShortOf}
 use Rattle.bitvec.specs.Bits.{Bytes}
 use Rattle.resolver.proofs.Answer.{accepted-layout}
-use Rattle.resolver.specs.declared.Settled.{Settled}
-use Rattle.resolver.specs.declared.Settled.TheVariants.{At, Refused as Unsettled}
 use Rattle.build_visits.specs.Items.{items_of, length_of}
 use Rattle.output.specs.Output.{Input, Room, placed_build, settled_build, visits_of, closed_of, fill_of, settled_of}
+use Rattle.output.specs.declared.Built.{Built}
+use Rattle.output.specs.Built.{done_with}
 use Rattle.build_plan.specs.Placing.{Placed, holds, stops, placed_all}
 use Rattle.build_visits.specs.Spans.{spans_of as spans_in}
-use Rattle.output.specs.declared.Build.{Build}
-use Rattle.output.specs.declared.Build.TheVariants.{Done, Refused}
 use Rattle.form_fields.specs.Kind.{kind_of}
 use Rattle.form_fields.specs.Theorems.Kind.{kind-known, kind-headed}
 use Rattle.form_fields.specs.Laws.Kind.{known-longest}
@@ -28,8 +26,6 @@ use Rattle.form_fields.specs.Laws.Shape.{node_count}
 use Rattle.form_fields.specs.Told.{FormTold, told_form, long, no-head, no-values, no-limit, extra, sound}
 use Rattle.form_fields.specs.Theorems.Told.{form-told}
 use Rattle.form_fields.specs.Laws.Within.{nodes-within, rows-within, banks-within, fields_within}
-use Rattle.form_fields.specs.declared.Form.{Form}
-use Rattle.form_fields.specs.declared.Form.TheVariants.{Sound, Broken}
 use Rattle.form_fields.specs.declared.Shape.{Shape}
 use Rattle.print_text.specs.Lengths.{AllFew}
 use Rattle.print_text.specs.Theorems.Lengths.{refusal-few}
@@ -39,24 +35,24 @@ use Rattle.print_report.specs.Places.{place_sum, sum_of}
 use Rattle.print_report.specs.Room.{report_room}
 
 -- K is no higher than the limit
-abbrev pub k_of : Build → ℕ
-k_of (Done k bits spans) = k
-k_of (Refused why) = 0
+abbrev pub k_of : Result Built Refusal → ℕ
+k_of (Ok ended) = ended.k
+k_of (Err why) = 0
 
-choice-k : (t : Bool) (x y : Build) (k : ℕ) → k_of x ≤ k → k_of y ≤ k → k_of (pick t x y) ≤ k
+choice-k : (t : Bool) (x y : Result Built Refusal) (k : ℕ) → k_of x ≤ k → k_of y ≤ k → k_of (pick t x y) ≤ k
 choice-k true x y k a b = a
 choice-k false x y k a b = b
 
 placed-k : (room : Room) (k bits spans : ℕ) (q : Placed) → k_of (placed_build room k bits spans q) ≤ k
 placed-k room k bits spans (stops why) = omega arith
 placed-k room k bits spans (holds s) =
-    let fits = pick (ltb room.spans spans) (Refused (ShortOf 1)) (Done k bits spans) in
-    choice-k (ltb (8 * room.image) bits) (Refused (ShortOf 0)) fits k (omega arith)
-    (choice-k (ltb room.spans spans) (Refused (ShortOf 1)) (Done k bits spans) k (omega arith) (omega arith))
+    let fits = pick (ltb room.spans spans) (Err (ShortOf 1)) (done_with k bits spans) in
+    choice-k (ltb (8 * room.image) bits) (Err (ShortOf 0)) fits k (omega arith)
+    (choice-k (ltb room.spans spans) (Err (ShortOf 1)) (done_with k bits spans) k (omega arith) (omega arith))
 
-pub settled-k : (b : Input) (room : Room) (passes : ℕ) (s : Settled) → settled_of b ≡ s → k_of (settled_build b room passes s) ≤ b.choices.limit
-settled-k b room passes (Unsettled why) e = omega arith
-settled-k b room passes (At k) e =
+pub settled-k : (b : Input) (room : Room) (passes : ℕ) (s : Result ℕ Refusal) → settled_of b ≡ s → k_of (settled_build b room passes s) ≤ b.choices.limit
+settled-k b room passes (Err why) e = omega arith
+settled-k b room passes (Ok k) e =
     let vs = visits_of b passes in
     omega (
       arith,
@@ -94,8 +90,8 @@ module _ (file : List ℕ) where
   told-near (extra h a b c d) = omega (arith, h, fields_within (kind-known file) file a, known-longest (kind-known file))
   told-near (sound h a b c d) = omega arith
 
-  pub broken-near : (why : Refusal) → form_of file ≡ Broken why → sum_of why ≤ farthest
-  broken-near why e = told-near (subst (λ (f : Form). FormTold (kind_of file) file (told_form f)) e (form-told (kind_of file) file))
+  pub broken-near : (why : Refusal) → form_of file ≡ Err why → sum_of why ≤ farthest
+  broken-near why e = told-near (subst (λ (f : Result Shape Refusal). FormTold (kind_of file) file (told_form f)) e (form-told (kind_of file) file))
 
   told-sound : {t : Told Shape} → FormTold (kind_of file) file t → (s : Shape) → t ≡ gives s
       → (length file ≤ (kind_of file).longest) × (s ≡ shape_in (kind_of file) file)
@@ -106,7 +102,7 @@ module _ (file : List ℕ) where
   told-sound (extra h a b c d) s e = absurd (not-given e)
   told-sound (sound h a b c d) s e = (h, shape_same e)
 
-  pub sound-is : (s : Shape) → form_of file ≡ Sound s → (length file ≤ (kind_of file).longest) × (s ≡ shape_in (kind_of file) file)
+  pub sound-is : (s : Shape) → form_of file ≡ Ok s → (length file ≤ (kind_of file).longest) × (s ≡ shape_in (kind_of file) file)
   sound-is s e = told-sound (form-told (kind_of file) file) s (ap told_form e)
 
   pub few-banks : length file ≤ (kind_of file).longest → bank_count file ≤ max_position

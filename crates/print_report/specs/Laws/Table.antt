@@ -1,10 +1,9 @@
 -- The table that a file of bytes says has offsets of 32 bits.
-use Rattle.std.specs.Prelude.{Bool, true, false, List, ◌++◌, get_or, replicate}
+use Rattle.std.specs.Prelude.{Bool, true, false, List, ◌++◌, get_or, replicate, Some, None}
 use Prim.Native.Nat.{ℕ, zero, suc, ◌+◌, ◌*◌, ◌-◌, ◌<◌, ◌≤◌, min}
 use Rattle.std.proofs.Common.{arith}
 use Rattle.prelude.specs.Limits.{max_banks, max_position}
 use Rattle.prelude.specs.Pick.{pick}
-use Rattle.prelude.specs.declared.Opt.TheVariants.{None, Some}
 use Rattle.bankdef.specs.Check.{no_bank}
 use Rattle.form_fields.specs.Words.{byte, word16, word32}
 use Rattle.form_fields.specs.Columns.{column}

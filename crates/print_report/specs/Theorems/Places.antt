@@ -1,9 +1,8 @@
 -- Theorems about what Places defines.
-use Rattle.std.specs.Prelude.{ℕ, ◌-◌, ◌≤◌, min, length, get_or}
+use Rattle.std.specs.Prelude.{ℕ, ◌-◌, ◌≤◌, min, length, get_or, Result, Err, Ok}
 use Rattle.prelude.specs.Limits.{max_position}
+use Rattle.prelude.specs.declared.Refusal.{Refusal}
 use Rattle.resolver.specs.Passes.{program, row_of_pass}
-use Rattle.resolver.specs.declared.Settled.{Settled}
-use Rattle.resolver.specs.declared.Settled.TheVariants.{At, Refused as Unsettled}
 use Rattle.build_visits.specs.Items.{items_of, length_of}
 use Rattle.output.specs.Output.{Input, Room, settled_build, build_of, visits_of, closed_of, fill_of, passes_of, settled_of}
 use Rattle.build_plan.specs.Placing.{placed_all}
@@ -18,9 +17,9 @@ use Rattle.print_report.specs.Places.{Near, build_sum}
 -- A build whose numbers are within document 01's table.
 module _ (b : Input) (banks : OffsetsFit b.banks) (numbers : (i : ℕ) → get_or b.lists.numbers i 0 ≤ max_position)
     (few-banks : b.banks.len ≤ max_position) (few-nodes : length b.lists.kinds ≤ max_position) where
-  settled-near : (room : Room) (passes : ℕ) (s : Settled) → settled_sum s ≤ farthest → build_sum (settled_build b room passes s) ≤ farthest
-  settled-near room passes (Unsettled why) h = h
-  settled-near room passes (At k) h =
+  settled-near : (room : Room) (passes : ℕ) (s : Result ℕ Refusal) → settled_sum s ≤ farthest → build_sum (settled_build b room passes s) ≤ farthest
+  settled-near room passes (Err why) h = h
+  settled-near room passes (Ok k) h =
       let vs = visits_of b passes in
       room-near room k (length_of (fill_of b) (items_of vs)) (length (spans_of vs)) (placed_all (closed_of b) vs)
       (placed-near (program b.banks b.lists) (row_of_pass b.lists passes) (closed_of b) banks (row_small b banks numbers 0)

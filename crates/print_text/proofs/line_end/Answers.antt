@@ -5,26 +5,22 @@ use Rattle.print_text.specs.Laws.Ends.{end_same, end_short, fits-of, short-of}
 use Rattle.print_text.proofs.Spaced.{spaced-left, spaced-done}
 use Rattle.print_text.proofs.line_end.Goals as goal
 
-pub returns-in_default-end_of : goal.returns-in_default-end_of
-returns-in_default-end_of c =
+pub returns-in_err-next : goal.returns-in_err-next
+returns-in_err-next c =
     let a = c.args in
-    let i = c.loop-i.i in
-    let more = spaced-left a.numbers.now i c.loop-i-test.true in
-    let short = short-of a.size c.loop-i.end (c.decimal_length-len.result + 1) c.end_of-in-loop-i.ensures
-    c.in_default-end_of.is in
-    sym (end_short a.size a.at _ (omega arith))
+    let more = spaced-left a.numbers.now c.loop-n.n-index c.loop-n-test.true in
+    let short = short-of a.size c.loop-n.end (c.decimal_length.result + 1) c.end_of-in-loop-n.ensures c.in_err-next.was in
+    c.from_residual-in_err-next.ensures ∙ sym (end_short a.size a.at _ (omega arith))
 
-pub loop-i-preserved : goal.loop-i-preserved
-loop-i-preserved c =
+pub loop-n-preserved : goal.loop-n-preserved
+loop-n-preserved c =
     let a = c.args in
-    let i = c.loop-i.i in
-    let more = spaced-left a.numbers.now i c.loop-i-test.true in
-    let fits = fits-of a.size c.loop-i.end (c.decimal_length-len.result + 1) c.end_of-in-loop-i.ensures
-    c.in-To-end_of.is in
-    (omega arith, omega arith, omega arith)
+    let more = spaced-left a.numbers.now c.loop-n.n-index c.loop-n-test.true in
+    let fits = fits-of a.size c.loop-n.end (c.decimal_length.result + 1) c.end_of-in-loop-n.ensures c.in_ok-next.was in
+    (omega arith, omega arith)
 
 pub returns : goal.returns
 returns c =
     let a = c.args in
-    let done = spaced-done a.numbers.now c.loop-i.i c.loop-i-test.false in
-    c.end_of-2.ensures ∙ end_same a.size c.loop-i.end 1 a.at _ (omega arith)
+    let done = spaced-done a.numbers.now c.loop-n.n-index c.loop-n-test.false in
+    c.end_of-2.ensures ∙ end_same a.size c.loop-n.end 1 a.at _ (omega arith)

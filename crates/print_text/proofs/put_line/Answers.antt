@@ -12,5 +12,5 @@ returns c =
     let a = c.args in
     let whole = line-length a.word.now a.numbers.now in
     let fits = fits-of (length a.out.now) a.at (length a.word.now + length (spaced a.numbers.now) + 1)
-    c.line_end.ensures c.in_default.is in
+    c.line_end.ensures c.in_ok-line_end.was in
     puts-writes (omega arith) c.write_line.ensures

@@ -8,5 +8,5 @@ pub returns : goal.returns
 returns c =
     let a = c.args in
     let fits = fits-of (length a.out.now) a.at c.decimal_length.result
-    c.end_of.ensures c.in_default.is in
+    c.end_of.ensures c.in_ok-end_of.was in
     puts-writes (omega arith) c.write_number.ensures

@@ -36,26 +36,26 @@ words κs out at (BanksOverlap p q) rest g = (omega (arith, g.1.1.0.1.1.1.1.0.1)
 words κs out at (Overlap p q) rest g = (omega (arith, g.1.1.0.1.1.1.1.0.1), (omega (arith, g.1.1.0.1.1.1.1.1.0.1), tt))
 words κs out at (OffProfile p q) rest g = (omega (arith, g.1.1.0.1.1.1.1.0.1), (omega (arith, g.1.1.0.1.1.1.1.1.0.1), tt))
 
-pub returns-in-To-clause-writes : goal.returns-in-To-clause-writes
-returns-in-To-clause-writes c =
+pub returns-in-Some-clause-writes : goal.returns-in-Some-clause-writes
+returns-in-Some-clause-writes c =
     let short : length (refusal_text c.args.why) ≤ 71 =
     refusal-within c.args.why (words c.lifetimes c.args.out c.args.at c.args.why tt c.well_formed) in
     let fits : c.args.at + length (refusal_text c.args.why) ≤ length c.args.out.now =
     omega (arith, short, c.requires) in
-    let w = put-writes (fits) c.put_refusal.ensures c.in-To.is in w
+    let w = put-writes (fits) c.put_refusal.ensures c.in-Some.is in w
 
-pub returns-in-To-clause-upper_bound : goal.returns-in-To-clause-upper_bound
-returns-in-To-clause-upper_bound c =
+pub returns-in-Some-clause-upper_bound : goal.returns-in-Some-clause-upper_bound
+returns-in-Some-clause-upper_bound c =
     let short : length (refusal_text c.args.why) ≤ 71 =
     refusal-within c.args.why (words c.lifetimes c.args.out c.args.at c.args.why tt c.well_formed) in
     let fits : c.args.at + length (refusal_text c.args.why) ≤ length c.args.out.now =
     omega (arith, short, c.requires) in
-    let w = put-writes (fits) c.put_refusal.ensures c.in-To.is in omega (arith, w.place, short)
+    let w = put-writes (fits) c.put_refusal.ensures c.in-Some.is in omega (arith, w.place, short)
 
-pub returns-in-TooShort-clause-writes : goal.returns-in-TooShort-clause-writes
-returns-in-TooShort-clause-writes c =
+pub returns-in-None-clause-writes : goal.returns-in-None-clause-writes
+returns-in-None-clause-writes c =
     let short : length (refusal_text c.args.why) ≤ 71 =
     refusal-within c.args.why (words c.lifetimes c.args.out c.args.at c.args.why tt c.well_formed) in
     let fits : c.args.at + length (refusal_text c.args.why) ≤ length c.args.out.now =
     omega (arith, short, c.requires) in
-    absurd (put-fits (fits) c.put_refusal.ensures c.in-TooShort.is)
+    absurd (put-fits (fits) c.put_refusal.ensures c.in-None.is)

@@ -1,10 +1,9 @@
+-- `print_text::write_word` meets its contract: the part of the buffer that the word takes is the word.
+use mathlib.Core.Path.{refl}
 use native.Mathlib.Omega.{arith}
-use lib.ListN.{length-set}
-use Rattle.print_text.specs.Laws.Sets.{sets-take}
+use Rattle.print_text.proofs.Part.{part-sets}
 use Rattle.print_text.proofs.write_word.Goals as goal
 
-pub loop-i-preserved : goal.loop-i-preserved
-loop-i-preserved c =
-    let a = c.args in
-    let i = c.loop-i.i in
-    (omega arith, simp length-set (omega arith), rw c.loop-i.invariant.2 (sets-take a.out.now a.at a.word.now i (omega arith)))
+pub returns : goal.returns
+returns c =
+    record { place = refl; buffer = part-sets c.args.out.now c.args.word.now _ c.args.at _ c.requires c.copy_from_slice.ensures.after (omega arith) }

@@ -4,6 +4,6 @@ use Rattle.prelude.specs.Limits.{max_position}
 use Rattle.prog_args.specs.Number.{base_of, number_from, spelled_in}
 use Rattle.prog_args.proofs.spelled.Given as goal
 
-abbrev pub invariant-loop-i : goal.invariant-loop-i
-invariant-loop-i l =
-    (spelled_in (base_of l.hex) (drop l.from l.text) ≡ number_from (base_of l.hex) l.value (drop l.i l.text)) × (l.value ≤ max_position)
+abbrev pub invariant-loop-c : goal.invariant-loop-c
+invariant-loop-c l =
+    (spelled_in (base_of l.hex) l.text ≡ number_from (base_of l.hex) l.value (drop l.c-index l.text)) × (l.value ≤ max_position)

@@ -1,29 +1,27 @@
 -- Laws of text at the front of a buffer: put there by a call that found room, behind other text, and handed on.
-use Rattle.std.specs.Prelude.{◌≡◌, List, ◌++◌, ℕ, ◌+◌, ◌≤◌, min, length, take, drop}
+use Rattle.std.specs.Prelude.{◌≡◌, List, ◌++◌, ℕ, ◌+◌, ◌≤◌, min, length, take, drop, Some, None, Option}
 use Rattle.std.proofs.Common.{sym, ap, ap₂, ◌∙◌, arith, le-leb, length-append, length-drop, take_at, drop-drop}
 use Rattle.std.proofs.Math.Seq.{drop-append-add}
 use Rattle.prelude.specs.Laws.Bools.{unlike}
 use Rattle.prelude.specs.Laws.Pick.{pick_true}
 use Rattle.print_text.specs.Laws.Ends.{end_fits}
 use Rattle.print_text.specs.Puts.{Puts}
-use Rattle.print_text.specs.declared.Written.{Written}
-use Rattle.print_text.specs.declared.Written.TheVariants.{To, TooShort}
 use Rattle.prog_args.specs.Text.{Stands, Shows}
 
-pub never-short : {m : ℕ} → To m ≡ TooShort → ⊥
+pub never-short : {m : ℕ} → Some m ≡ None → ⊥
 never-short e = unlike cc
 
-pub to_same : {m n : ℕ} → To m ≡ To n → m ≡ n
+pub to_same : {m n : ℕ} → Some m ≡ Some n → m ≡ n
 to_same e = cc
 
 -- ---- a text put at the front, where there is room
 
-module _ {text old : List ℕ} {r : Written} {new : List ℕ} (p : Puts text old 0 r new) (room : length text ≤ length old) where
+module _ {text old : List ℕ} {r : Option ℕ} {new : List ℕ} (p : Puts text old 0 r new) (room : length text ≤ length old) where
   fits-there : 0 + length text ≤ length old
   fits-there = omega (arith, room)
 
-  pub put-ends : r ≡ To (length text)
-  put-ends = p.place ∙ end_fits (length old) 0 (length text) fits-there ∙ ap To (omega arith)
+  pub put-ends : r ≡ Some (length text)
+  put-ends = p.place ∙ end_fits (length old) 0 (length text) fits-there ∙ ap Some (omega arith)
 
   pub put-stands : {n : ℕ} → n ≡ length text → Stands text old n new
   put-stands e =
@@ -41,12 +39,12 @@ stands-long {text} {old} s =
     let fits = s.fits in
     ap length s.buffer ∙ length-append text (drop (length text) old) ∙ ap (λ (k : ℕ). length text + k) (length-drop (length text) old) ∙ omega arith
 
-module _ {first second old mid : List ℕ} {at : ℕ} {r : Written} {new : List ℕ} (s : Stands first old at mid) (p : Puts second mid at r new)
+module _ {first second old mid : List ℕ} {at : ℕ} {r : Option ℕ} {new : List ℕ} (s : Stands first old at mid) (p : Puts second mid at r new)
     (room : length first + length second ≤ length old) where
   fits-behind : at + length second ≤ length mid
   fits-behind = omega (arith, room, s.counted, stands-long s)
 
-  pub then-ends : r ≡ To (at + length second)
+  pub then-ends : r ≡ Some (at + length second)
   then-ends = p.place ∙ end_fits (length mid) at (length second) fits-behind
 
   behind : drop (at + length second) mid ≡ drop (length (first ++ second)) old

@@ -1,9 +1,8 @@
 -- Theorems about what Number defines.
-use Rattle.std.specs.Prelude.{◌≡◌, refl, Bool, true, false, List, [], ◌∷◌, ℕ, ◌+◌, ◌*◌, ◌<◌, ltb}
+use Rattle.std.specs.Prelude.{◌≡◌, refl, Bool, true, false, List, [], ◌∷◌, ℕ, ◌+◌, ◌*◌, ◌<◌, ltb, None, Some}
 use Rattle.std.proofs.Common.{arith}
 use Rattle.std.proofs.lemmas.Bool.{lt-leb}
 use Rattle.prelude.specs.Limits.{max_position}
-use Rattle.prelude.specs.declared.Opt.TheVariants.{None, Some}
 use Rattle.prog_args.specs.Laws.Number.{either-none}
 use Rattle.prog_args.specs.Number.{digit_value, number_from, base_of, number_in}
 

@@ -1,5 +1,5 @@
 -- Laws of what is handed on: a converted file is as long as the answer says, and stands in the front of the buffer.
-use Rattle.std.specs.Prelude.{◌≡◌, Bool, true, false, List, ℕ, ◌+◌, ◌≤◌, min, max, ltb, length, take, drop}
+use Rattle.std.specs.Prelude.{◌≡◌, Bool, true, false, List, ℕ, ◌+◌, ◌≤◌, min, max, ltb, length, take, drop, Result, Ok, Err}
 use Rattle.std.proofs.Math.Path.{refl}
 use Rattle.std.proofs.Common.{sym, ap, subst, ◌∙◌, arith, length-append, take_at}
 use Rattle.std.proofs.Math.Seq.{length-sets}
@@ -12,12 +12,9 @@ use Rattle.form_fields.specs.Contents.{Contents, written}
 use Rattle.form_fields.specs.Kind.{Known}
 use Rattle.form_fields.specs.Shape.{form_in}
 use Rattle.form_fields.specs.Whole.{contents_in}
-use Rattle.form_fields.specs.declared.Form.{Form}
-use Rattle.form_fields.specs.declared.Form.TheVariants.{Sound, Broken}
 use Rattle.form_fields.specs.declared.Kind.{Kind}
+use Rattle.form_fields.specs.declared.Shape.{Shape}
 use Rattle.form_convert.specs.Convert.{stray, answer_of, answer_by, Converts}
-use Rattle.form_convert.specs.declared.Conversion.{Conversion}
-use Rattle.form_convert.specs.declared.Conversion.TheVariants.{Converted, Refused}
 use Rattle.print_text.specs.Puts.{Writes}
 use Rattle.prog_args.specs.Text.{Shows}
 use Rattle.meets_texts.specs.Printed.{file_room, printed, way_text}
@@ -25,19 +22,19 @@ use Rattle.prog_convert.specs.Program.{Handed}
 use Rattle.prog_convert.specs.Theorems.Room.{conversion-held}
 
 -- an answer that is given says this size
-abbrev Says : ℕ → Conversion → Type 0
-Says size (Converted n) = n ≡ size
-Says size (Refused why) = Unit {0}
+abbrev Says : ℕ → Result ℕ Refusal → Type 0
+Says size (Ok n) = n ≡ size
+Says size (Err why) = Unit {0}
 
-pub record Sized (size : ℕ) (answer : Conversion) : Type 0 where
+pub record Sized (size : ℕ) (answer : Result ℕ Refusal) : Type 0 where
   pub says : Says size answer
 
 module _ (size : ℕ) where
-  either : (t : Bool) (x y : Conversion) → Sized size x → Sized size y → Sized size (pick t x y)
+  either : (t : Bool) (x y : Result ℕ Refusal) → Sized size x → Sized size y → Sized size (pick t x y)
   either true x y a b = a
   either false x y a b = b
 
-  none : (why : Refusal) → Sized size (Refused why)
+  none : (why : Refusal) → Sized size (Err why)
   none why = record { says = tt }
 
   answer-sized : (nodes rows first count longest : ℕ) (drops : Bool) (room : ℕ) → Sized size (answer_of nodes rows first count size longest drops room)
@@ -50,9 +47,9 @@ module _ (size : ℕ) where
       (either drops _ _ (none FillBitDropped)
       (either (ltb room size) _ _ (none (TooShort 0)) (record { says = refl }))))))
 
-by-sized : (k : Kind) (f : Form) (c d : Contents) (drops : Bool) (room : ℕ) → Sized (length (written k d)) (answer_by k f c d drops room)
-by-sized k (Broken why) c d drops room = record { says = tt }
-by-sized k (Sound s) c d drops room =
+by-sized : (k : Kind) (f : Result Shape Refusal) (c d : Contents) (drops : Bool) (room : ℕ) → Sized (length (written k d)) (answer_by k f c d drops room)
+by-sized k (Err why) c d drops room = record { says = tt }
+by-sized k (Ok s) c d drops room =
     answer-sized (length (written k d)) (max (length c.nodes) (length d.nodes)) (length c.rows) (stray c) (length c.nodes) k.longest drops room
 
 -- Text that is written from the front on, and handed on as far as it goes.
@@ -72,10 +69,10 @@ module _ (from to : Kind) (turn : Contents → Contents) (drops : Contents → B
   abbrev result : List ℕ
   result = written to (turn (contents_in from file))
 
-  by_answer : (count : ℕ) (last : List ℕ) (a : Conversion) → Converts from to turn drops file old a new → Handed a new count last
+  by_answer : (count : ℕ) (last : List ℕ) (a : Result ℕ Refusal) → Converts from to turn drops file old a new → Handed a new count last
       → Shows (printed a result) count last
-  by_answer count last (Refused why) q h = h
-  by_answer count last (Converted n) q h =
+  by_answer count last (Err why) q h = h
+  by_answer count last (Ok n) q h =
       let c = contents_in from file in
       let size = (subst (Sized (length result)) (sym q.is) (by-sized to (form_in from file) c (turn c) (drops c) (length old))).says in
       let held = (conversion-held known (omega (arith, room)) q).within in
@@ -86,10 +83,10 @@ module _ (from to : Kind) (turn : Contents → Contents) (drops : Contents → B
         front = ap (take count) (h.1 ∙ q.out) ∙ take_at result (drop (length result) old) count (sym counted);
       }
 
-  pub handed-shows : {answer : Conversion} {count : ℕ} {last : List ℕ} → Converts from to turn drops file old answer new → Handed answer new count last
+  pub handed-shows : {answer : Result ℕ Refusal} {count : ℕ} {last : List ℕ} → Converts from to turn drops file old answer new → Handed answer new count last
       → Shows (way_text from to turn drops file) count last
   handed-shows {answer} {count} {last} p h =
       let c = contents_in from file in
-      subst (λ (a : Conversion). Shows (printed a result) count last)
+      subst (λ (a : Result ℕ Refusal). Shows (printed a result) count last)
       (p.is ∙ ap (answer_by to (form_in from file) c (turn c) (drops c)) room)
       (by_answer count last answer p h)

@@ -1,4 +1,5 @@
 -- `record_ihex_line::is_good` tests as the definition does.
+use mathlib.Core.Path.{◌∙◌}
 use Rattle.record_ihex_line.proofs.LineLaws.{no-colon, by-sum}
 use Rattle.record_ihex_line.proofs.is_good.Goals as goal
 
@@ -10,5 +11,5 @@ returns-then-char_at-ne58 c spells =
 pub returns : goal.returns
 returns c spells =
     let a = c.args in
-    by-sum a.line.now c.char_at.result c.pair-count.result c.char_at.ensures c.if-char_at-ne58.false (c.pair-count.ensures spells)
+    by-sum a.line.now c.char_at.result c.from-count.result c.char_at.ensures c.if-char_at-ne58.false (c.from-count.ensures ∙ c.pair.ensures spells)
     c.sum_checked.result (c.sum_checked.ensures spells)

@@ -11,10 +11,11 @@ pub returns-then-kind-eq-TYPE_DATA : goal.returns-then-kind-eq-TYPE_DATA
 returns-then-kind-eq-TYPE_DATA c spells good =
     let line = c.args.line.now in
     let long = good-long line good in
-    as-gives line c.args.state 9 _ c.pair-count.result c.args.state
+    rw (c.from.ensures, c.from-then-kind-eq-TYPE_DATA.ensures)
+    (as-gives line c.args.state 9 _ c.pair-count.result c.args.state
     (data-line line c.args.state good c.pair-kind.result c.word-field.result c.pair-count.result (c.pair-kind.ensures spells)
     (c.word-field.ensures spells) (c.pair-count.ensures spells) c.if-kind-eq-TYPE_DATA.true)
-    (omega (arith, c.pair-count.ensures spells))
+    (omega (arith, c.pair-count.ensures spells)))
 
 pub returns-then-field-ne0 : goal.returns-then-field-ne0
 returns-then-field-ne0 c spells good =

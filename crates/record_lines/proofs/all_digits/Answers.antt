@@ -1,17 +1,14 @@
-use Rattle.std.proofs.Common.{sym, ◌∙◌, arith}
-use Rattle.record_lines.proofs.Steps.{digits-stop, digits-on, digits-done}
+use Rattle.std.proofs.Common.{◌∙◌, rules, tests}
+use Rattle.std.proofs.lemmas.Iterator.{YieldsList-from_slice}
+use Rattle.std.proofs.lemmas.Iterator.Adapters.{YieldsList-from_skip}
+use Rattle.std.proofs.lemmas.Iterator.Search.{all_from_yields_List}
+use Rattle.record_lines.specs.Digits.{is_digit}
+use Rattle.record_lines.proofs.Steps.{digits-all}
 use Rattle.record_lines.proofs.all_digits.Goals as goal
-
-pub returns-then-value-eq16 : goal.returns-then-value-eq16
-returns-then-value-eq16 c =
-    sym (c.loop-i.invariant ∙ digits-stop c.args.line.now
-    c.loop-i.i c.loop-i-test.true (sym c.value.ensures.0 ∙ c.if-value-eq16.true))
-
-pub loop-i-preserved : goal.loop-i-preserved
-loop-i-preserved c =
-    c.loop-i.invariant ∙ digits-on c.args.line.now
-    c.loop-i.i c.loop-i-test.true (omega (arith, c.value.ensures))
 
 pub returns : goal.returns
 returns c =
-    sym (c.loop-i.invariant ∙ digits-done c.args.line.now c.loop-i.i c.loop-i-test.false)
+    let line = c.args.line.now in
+    all_from_yields_List is_digit _ _ c.all.result c.all.ensures.ran (YieldsList-from_skip c.args.from (YieldsList-from_slice line cc) cc)
+    (λ x b q k. search (rules, tests))
+    ∙ digits-all _

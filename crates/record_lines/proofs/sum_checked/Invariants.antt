@@ -1,13 +1,12 @@
 -- `record_lines::sum_checked`: the low byte of the sum so far, and that what is left decides as the whole does, by a table that spells the digits.
-use Rattle.std.proofs.Common.{◌≡◌, ◌+◌, ◌-◌, ◌*◌, ◌%◌, ◌≤◌, drop}
+use Rattle.std.proofs.Common.{◌≡◌, ◌+◌, ◌*◌, ◌%◌, drop}
 use Rattle.record_lines.specs.Digits.{all_digits, bytes_at}
 use Rattle.record_lines.specs.Spelling.{Spells}
 use Rattle.record_lines.specs.Sums.{sum_of}
 use Rattle.record_lines.proofs.sum_checked.Given as goal
 
-abbrev pub invariant-loop-j : goal.invariant-loop-j
-invariant-loop-j l = (l.j ≤ l.n)
-    × (Spells l.t → (l.sum ≡ sum_of (bytes_at l.line l.from l.j) % 256) × (all_digits (drop l.from l.line) ≡ all_digits (drop (l.from + 2 * l.j) l.line)))
-
-abbrev pub decreases-loop-j : goal.decreases-loop-j
-decreases-loop-j l = l.n - l.j
+abbrev pub invariant-loop-pair : goal.invariant-loop-pair
+invariant-loop-pair l =
+    Spells l.t
+    → (l.sum ≡ sum_of (bytes_at l.line l.from l.pair-index) % 256)
+    × (all_digits (drop l.from l.line) ≡ all_digits (drop (l.from + 2 * l.pair-index) l.line))

@@ -1,6 +1,6 @@
-use Rattle.std.proofs.Common.{◌+◌, ◌*◌, refl, arith}
+use Rattle.std.proofs.Common.{◌≡◌, ◌+◌, ◌*◌, ◌%◌, refl, ap, ◌∙◌, arith}
 use Rattle.bitvec.specs.Lists.{list_of}
-use Rattle.record_lines.specs.Digits.{pair_at}
+use Rattle.record_lines.specs.Digits.{pair_at, bytes_at}
 use Rattle.record_lines.specs.Sums.{sum_of}
 use Rattle.record_lines.specs.Laws.Sums.{sum-list-more}
 use Rattle.record_lines.proofs.sum_pairs.Goals as goal
@@ -17,9 +17,16 @@ loop-j-preserved c =
       omega (
         arith,
         c.loop-j.invariant.1,
-        c.wrapping_add_u8-sum.ensures,
-        c.byte_at.ensures,
+        c.byte_at-sum.ensures,
         sum-list-more
-            c.loop-j.j (λ k. pair_at a.line.now (a.from + 2 * k)),
+            c.loop-j.j (λ k. pair_at a.line.now (c.from-start.result + 2 * k)),
       ),
     )
+
+pub returns : goal.returns
+returns c =
+    let a = c.args in
+    let all : c.loop-j.j ≡ a.n = omega arith in
+    c.loop-j.invariant.1
+    ∙ ap (λ i. sum_of (bytes_at a.line.now i c.loop-j.j) % 256) c.from-start.ensures
+    ∙ ap (λ n. sum_of (bytes_at a.line.now a.from n) % 256) all

@@ -7,7 +7,7 @@ use Rattle.std.proofs.Math.Decide.{dec_lt}
 use Rattle.prelude.specs.Laws.Bools.{clash}
 use Rattle.blocks.specs.declared.Block.{Block}
 use Rattle.blocks.specs.Walk.{end_of}
-use Rattle.blocks.specs.Bits.{InBlock, Some}
+use Rattle.blocks.specs.Bits.{InBlock, SomeElement}
 use Rattle.record_lines.specs.Pieces.{Piece}
 use Rattle.record_read.specs.Laws.GivenLaws.{given_above, given_below}
 use Rattle.record_read.specs.Runs.{is_given, reach, runs, runs_given, in_bits}
@@ -30,7 +30,7 @@ module _ (load : ℕ) (l : List Piece) where
 -- ---- runs in bits
 
 module _ (test : ℕ → Bool) where
-  pub in-bits : (lo hi : ℕ) (l : List Block) → AreRuns test lo hi l → (bit : ℕ) → Some (InBlock bit) (map in_bits l) → test (bit / 8) ≡ true
+  pub in-bits : (lo hi : ℕ) (l : List Block) → AreRuns test lo hi l → (bit : ℕ) → SomeElement (InBlock bit) (map in_bits l) → test (bit / 8) ≡ true
   in-bits lo hi [] r bit s = absurd (Memᴰ.not-nil s.1)
   in-bits lo hi (b ∷ l) r bit s =
       ⊎_elim
@@ -41,7 +41,7 @@ module _ (test : ℕ → Bool) where
       (Memᴰ.cases_cons s.1)
 
   pub to_bits : (lo hi : ℕ) (l : List Block) → AreRuns test lo hi l → (bit : ℕ) → lo ≤ bit / 8 → bit / 8 < hi → test (bit / 8) ≡ true
-      → Some (InBlock bit) (map in_bits l)
+      → SomeElement (InBlock bit) (map in_bits l)
   to_bits lo hi [] r bit h k t = absurd (clash t (r (bit / 8) h k))
   to_bits lo hi (b ∷ l) r bit h k t =
       elim (dec_lt (bit / 8) b.origin) [

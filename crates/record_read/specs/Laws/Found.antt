@@ -1,5 +1,5 @@
 -- What a call that found blocks leaves at the front of what was lent, and what its refusal says of the room.
-use Rattle.std.specs.Prelude.{◌≡◌, refl, Bool, true, false, List, ℕ, ◌≤◌, leb, length, take, drop}
+use Rattle.std.specs.Prelude.{◌≡◌, refl, Bool, true, false, List, ℕ, ◌≤◌, leb, length, take, drop, Ok, Err, Result}
 use Rattle.std.proofs.Common.{sym, ap, ap₂, ◌∙◌, take_at}
 use Rattle.std.proofs.lemmas.List.{length-map}
 use Rattle.prelude.specs.Laws.Bools.{unlike}
@@ -7,8 +7,6 @@ use Rattle.prelude.specs.Pick.{pick}
 use Rattle.prelude.specs.declared.Refusal.{Refusal}
 use Rattle.prelude.specs.declared.Refusal.TheVariants.{TooShort}
 use Rattle.blocks.specs.Outcome.{origins, sizes, room_for, ToldBy}
-use Rattle.blocks.specs.declared.Blocks.{Blocks}
-use Rattle.blocks.specs.declared.Blocks.TheVariants.{Found, Refused}
 use Rattle.record_scan.specs.Reading.{Read, sound}
 use Rattle.record_lines.specs.Pieces.{Piece}
 use Rattle.record_read.specs.Outcome.{Lent, answer_of, taken, Reads}
@@ -17,10 +15,10 @@ use Rattle.record_read.specs.Theorems.Facts.{found-good, found_after}
 
 -- ---- refused
 
-not-both : (n : ℕ) (why : Refusal) → Found n ≡ Refused why → ⊥
+not-both : (n : ℕ) (why : Refusal) → Ok n ≡ Err why → ⊥
 not-both n why e = unlike cc
 
-pub same-refusal : {a b : Refusal} → Refused a ≡ Refused b → a ≡ b
+pub same-refusal : {a b : Refusal} → ◌≡◌ {A = Result ℕ Refusal} (Err a) (Err b) → a ≡ b
 same-refusal e = cc
 
 twice : (t : Bool) → pick t t false ≡ t
@@ -30,13 +28,13 @@ twice false = refl
 -- what is told of a refusal is told by two tests, where the lists lent are so long
 module _ {A : Type 0} (tell : Refusal → A) (load : ℕ) (l : Lent) (bytes_room blocks_room : ℕ) (hb : length l.bytes ≡ bytes_room)
     (ho : length l.offsets ≡ blocks_room) (hs : length l.sizes ≡ blocks_room) where
-  by-room : (p q : Bool) (n : ℕ) (x : A) (why : Refusal) → pick p (pick q (Found n) (Refused (TooShort 2))) (Refused (TooShort 0)) ≡ Refused why
+  by-room : (p q : Bool) (n : ℕ) (x : A) (why : Refusal) → pick p (pick q (Ok n) (Err (TooShort 2))) (Err (TooShort 0)) ≡ Err why
       → pick p (pick q x (tell (TooShort 2))) (tell (TooShort 0)) ≡ tell why
   by-room true true n x why e = absurd (not-both n why e)
   by-room true false n x why e = ap tell (same-refusal e)
   by-room false q n x why e = ap tell (same-refusal e)
 
-  pub no_room : (pieces : List Piece) (x : A) (why : Refusal) → answer_of load l (sound pieces) ≡ Refused why
+  pub no_room : (pieces : List Piece) (x : A) (why : Refusal) → answer_of load l (sound pieces) ≡ Err why
       → pick (leb (reach load pieces) bytes_room) (pick (leb (length (blocks_given load pieces)) blocks_room) x (tell (TooShort 2))) (tell (TooShort 0)) ≡ tell why
   no_room pieces x why e =
       let blocks = blocks_given load pieces in
@@ -58,7 +56,7 @@ pub record Held (load : ℕ) (l : Lent) (read : Read) (count : ℕ) (new : Lent)
   pub first : take count new.offsets ≡ origins (blocks_given load pieces)
   pub second : take count new.sizes ≡ sizes (blocks_given load pieces)
 
-pub held : (load : ℕ) (l : Lent) (read : Read) (r : Blocks) (new : Lent) → Reads load read l r new → (count : ℕ) → r ≡ Found count
+pub held : (load : ℕ) (l : Lent) (read : Read) (r : Result ℕ Refusal) (new : Lent) → Reads load read l r new → (count : ℕ) → r ≡ Ok count
     → Held load l read count new
 held load l read r new c count found =
     let g = found-good load l read r new c count (ap ToldBy found) in

@@ -1,9 +1,9 @@
 -- Theorems about what Facts defines.
-use Rattle.std.specs.Prelude.{◌≡◌, refl, true, List, ℕ, ◌≤◌, length}
+use Rattle.std.specs.Prelude.{◌≡◌, refl, true, List, ℕ, ◌≤◌, length, Result}
 use Rattle.std.proofs.Common.{sym, ap, ◌∙◌, le-leb, leb-true}
 use Rattle.prelude.specs.Laws.Bools.{unlike}
 use Rattle.prelude.specs.Told.{gives}
-use Rattle.blocks.specs.declared.Blocks.{Blocks}
+use Rattle.prelude.specs.declared.Refusal.{Refusal}
 use Rattle.blocks.specs.Theorems.Exactly.{room-exactly}
 use Rattle.blocks.specs.Outcome.{ToldBy}
 use Rattle.record_lines.specs.Pieces.{Piece}
@@ -26,7 +26,7 @@ module _ (load : ℕ) (old : Lent) where
       (l, refl, (leb-true (reach load l) (length old.bytes) t.0, (room-exactly (blocks_given load l) old.offsets old.sizes).0 t.1, t.2))
   told-found (faulty line) n e = unlike cc
 
-  module _ (read : Read) (r : Blocks) (new : Lent) (c : Reads load read old r new) where
+  module _ (read : Read) (r : Result ℕ Refusal) (new : Lent) (c : Reads load read old r new) where
     -- Accepted: the file is good and there is room for all of it; its blocks are counted.
     pub found-good : (n : ℕ) → ToldBy r ≡ gives n → Good read (λ l. Enough l × EnoughPlaces l × (n ≡ length (blocks_given load l)))
     found-good n e = told-found read n (sym c.figures ∙ e)

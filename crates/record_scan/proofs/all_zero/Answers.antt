@@ -1,15 +1,9 @@
-use mathlib.Core.Path.{sym, ◌∙◌}
-use Rattle.record_scan.proofs.WindowLaws.{zero-stop, zero-on, zero-done}
+-- `record_scan::all_zero`: `all` decides as the definition does.
+use Rattle.std.proofs.Common.{eqb, refl, rules}
+use Rattle.std.proofs.lemmas.List.Recursion.{and_is}
+use Rattle.record_scan.specs.Windows.{all_zero}
 use Rattle.record_scan.proofs.all_zero.Goals as goal
 
-pub returns-then-scratch-i-ne0 : goal.returns-then-scratch-i-ne0
-returns-then-scratch-i-ne0 c =
-    sym (c.loop-i.invariant ∙ zero-stop c.args.scratch.now c.loop-i.i c.loop-i-test.true c.if-scratch-i-ne0.true)
-
-pub loop-i-preserved : goal.loop-i-preserved
-loop-i-preserved c =
-    c.loop-i.invariant ∙ zero-on c.args.scratch.now c.loop-i.i c.loop-i-test.true c.if-scratch-i-ne0.false
-
 pub returns : goal.returns
-returns c =
-    sym (c.loop-i.invariant ∙ zero-done c.args.scratch.now c.loop-i.i c.loop-i-test.false)
+unfolding all_zero
+returns c = and_is all_zero (λ x. eqb x 0) refl (λ _ _. refl) c.args.scratch.now 0 _ (search rules) (search rules)

@@ -16,13 +16,13 @@ returns-then-any_one c =
     -- an address of 32 bits and a count of 8
     let near : c.known_line-s.result.line.address + c.known_line-s.result.line.count < 8589934592 = search rules in
     marking-hit a.format a.text.now a.n a.low a.scratch.now c.loop-k.invariant c.loop-k-test.true c.known_line-s.ensures
-    c.beyond-from.ensures c.beyond-stop.ensures near
-    (subst (AnyOne c.loop-k.scratch c.beyond-from.result c.beyond-stop.result) c.if-any_one.true c.any_one.ensures)
+    c.saturating_sub-from.ensures c.saturating_sub-stop.ensures near
+    (subst (AnyOne c.loop-k.scratch c.saturating_sub-from.result c.saturating_sub-stop.result) c.if-any_one.true c.any_one.ensures)
 
 pub loop-k-preserved : goal.loop-k-preserved
 loop-k-preserved c =
     let a = c.args in
     marking-on a.format a.text.now a.n a.low a.scratch.now c.loop-k.invariant c.loop-k-test.true c.known_line-s.ensures
-    c.beyond-from.ensures c.beyond-stop.ensures
-    (subst (AnyOne c.loop-k.scratch c.beyond-from.result c.beyond-stop.result) c.if-any_one.false c.any_one.ensures) c.set_ones.ensures
+    c.saturating_sub-from.ensures c.saturating_sub-stop.ensures
+    (subst (AnyOne c.loop-k.scratch c.saturating_sub-from.result c.saturating_sub-stop.result) c.if-any_one.false c.any_one.ensures) c.set_ones.ensures
     c.window_end-top.ensures c.nearer-next.ensures

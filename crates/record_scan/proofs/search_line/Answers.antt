@@ -14,8 +14,8 @@ returns c spells =
     let a = c.args in
     let cut = c.line_from-cut.ensures in
     let t = a.text.now in
-    let own = line-cut t a.at c.line_from-cut.result.stop c.least-end.result c.least-start.result cut.stop
-    c.least-end.ensures c.least-start.ensures in
+    let own = line-cut t a.at c.line_from-cut.result.stop c.min-end.result c.min-start.result cut.stop
+    c.min-end.ensures c.min-start.ensures in
     record {
       says =
           subst (λ (l : List ℕ). Says l a.state (first_by a.format l) c.line_in-line.result (format_by a.format a.state l)) own

@@ -19,5 +19,5 @@ returns-then-not-is_s c spells =
 pub returns : goal.returns
 returns c spells =
     let l = c.args.line.now in
-    ap (λ (n : ℕ). eqb n 255) (c.sum_checked.ensures spells ∙ ap (λ (n : ℕ). checked_sum l 2 (n + 1)) (c.pair-count.ensures spells))
+    ap (λ (n : ℕ). eqb n 255) (c.sum_checked.ensures spells ∙ ap (λ (n : ℕ). checked_sum l 2 (n + 1)) (c.from-count.ensures ∙ c.pair.ensures spells))
     ∙ sym (sound-sum _ (omega arith) (sym c.is_s.ensures ∙ not-false _ c.if-not-is_s.false-raw))

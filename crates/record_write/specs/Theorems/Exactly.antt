@@ -1,5 +1,5 @@
 -- Theorems about what Exactly defines.
-use Rattle.std.specs.Prelude.{◌≡◌, ℕ, zero, suc, ◌+◌, ◌/◌, ◌<◌, ◌≤◌, Bool, true, false, ◌&&◌, ◌↔◌, List, [], ◌∷◌, length, ◌==◌, nat_le, slice_index, slice_index_or}
+use Rattle.std.specs.Prelude.{◌≡◌, ℕ, zero, suc, ◌+◌, ◌/◌, ◌<◌, ◌≤◌, Bool, true, false, ◌&&◌, ◌↔◌, List, [], ◌∷◌, length, ◌==◌, nat_le, slice_index, slice_index_or, Ok, Err}
 use Rattle.std.proofs.Math.Path.{refl}
 use Rattle.std.proofs.Common.{not-suc-le-zero, le_of_suc-le-suc, suc-ne-zero}
 use Rattle.std.proofs.Math.Nat.{suc_inj}
@@ -13,7 +13,6 @@ use Rattle.blocks.specs.Walk.{block, end_of}
 use Rattle.record_write.specs.Checks.{all_parts, starts_behind, placed, all_placed}
 use Rattle.record_write.specs.Cut.{blocks_in}
 use Rattle.record_write.specs.Outcome.{told_written}
-use Rattle.record_write.specs.declared.Written.TheVariants.{Length, Refused}
 use Rattle.record_write.specs.Exactly.{AllParts, WellPlaced, answers, behind_last}
 use Rattle.record_write.specs.Laws.Exactly.{each-parts, parts-each}
 
@@ -98,7 +97,7 @@ module _ (load : ℕ) where
 
 -- What a call answers, in these figures.
 pub told-answers : (a b c : Bool) (n : ℕ)
-    → told_written (pick a (pick b (pick c (Length n) (Refused (TooShort 3))) (Refused (Malformed 0))) (Refused BadPart)) ≡ answers a b c n
+    → told_written (pick a (pick b (pick c (Ok n) (Err (TooShort 3))) (Err (Malformed 0))) (Err BadPart)) ≡ answers a b c n
 told-answers true true true n = refl
 told-answers true true false n = refl
 told-answers true false c n = refl

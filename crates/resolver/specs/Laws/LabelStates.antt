@@ -1,12 +1,11 @@
 -- Laws that Theorems/LabelStates rests on.
-use Rattle.std.specs.Prelude.{ℕ, ◌%◌, ◌≡◌, refl, Bool, true, false, not, ◌&&◌, eqb}
+use Rattle.std.specs.Prelude.{ℕ, ◌%◌, ◌≡◌, refl, Bool, true, false, not, ◌&&◌, eqb, Result, Ok, Err}
 use Rattle.std.proofs.Common.{arith, eq-eqb, eqb-true}
 use Rattle.prelude.specs.Pick.{pick}
 use Rattle.prelude.specs.Laws.Bools.{both, unlike}
+use Rattle.prelude.specs.declared.Refusal.{Refusal}
 use Rattle.bankdef.specs.declared.Bankdef.{Bankdef}
 use Rattle.iter.specs.Address.{on_boundary}
-use Rattle.iter.specs.declared.Moved.{Moved}
-use Rattle.iter.specs.declared.Moved.TheVariants.{To, Refused as Stopped}
 use Rattle.iter.specs.declared.Pos.{Pos}
 use Rattle.resolver.specs.Theorems.Labels.{same_address_lem, address_same}
 use Rattle.resolver.specs.Once.{same_address}
@@ -19,11 +18,11 @@ settled-told def now e =
 pub told-settled : (def : Bankdef) (now : Pos) → KnownOnBoundary def now → (now.known && on_boundary def now.position) ≡ true
 told-settled def now h = rw h.0 (eq-eqb (now.position % def.unit) 0 h.1)
 
-pub same-told : (def : Bankdef) (now : Pos) (before : Moved) → same_address def now before ≡ true → SameAddress def now before
-same-told def now (To was) e = (was, refl, same_address_lem def now was e)
-same-told def now (Stopped why) e = absurd (let z : ◌≡◌ {A = ℕ} 0 1 = cc in let b : ⊥ = omega arith in b)
+pub same-told : (def : Bankdef) (now : Pos) (before : Result Pos Refusal) → same_address def now before ≡ true → SameAddress def now before
+same-told def now (Ok was) e = (was, refl, same_address_lem def now was e)
+same-told def now (Err why) e = absurd (let z : ◌≡◌ {A = ℕ} 0 1 = cc in let b : ⊥ = omega arith in b)
 
-pub told_same : (def : Bankdef) (now : Pos) (before : Moved) → SameAddress def now before → same_address def now before ≡ true
+pub told_same : (def : Bankdef) (now : Pos) (before : Result Pos Refusal) → SameAddress def now before → same_address def now before ≡ true
 told_same def now before h = rw h.1 (address_same def now h.0 h.2)
 
 -- ---- the three states

@@ -1,6 +1,5 @@
 -- Laws that Theorems/LayoutPadding rests on.
-use Rattle.std.specs.Prelude.{◌≡◌, refl, false, [], ◌∷◌, pos, replicate}
-use Rattle.prelude.specs.declared.Opt.TheVariants.{None, Some}
+use Rattle.std.specs.Prelude.{◌≡◌, refl, false, [], ◌∷◌, pos, replicate, None, Some}
 use Rattle.bankdef.specs.Check.{no_bank}
 use Rattle.bankdef.specs.declared.Bankdefs.{Bankdefs}
 use Rattle.iter.specs.Distance.{distance_of}

@@ -1,11 +1,11 @@
 -- Laws that Theorems/NeverFour rests on.
-use Rattle.std.specs.Prelude.{ℕ, ◌<◌, ◌≤◌, ◌≡◌, refl, Bool, true, false, length}
+use Rattle.std.specs.Prelude.{ℕ, ◌<◌, ◌≤◌, ◌≡◌, refl, Bool, true, false, length, Err, Result, Ok}
 use Rattle.std.proofs.Common.{sym, ◌∙◌, ap, subst, arith, length-take}
 use Rattle.prelude.specs.Refusals.{number_of}
 use Rattle.prelude.specs.Told.{Told, told_number}
 use Rattle.prelude.specs.declared.Refusal.{Refusal}
-use Rattle.prelude.specs.declared.Verdict.TheVariants.{Accepted}
 use Rattle.prelude.specs.Laws.Bools.{either, clash}
+use Rattle.prelude.specs.Verdict.{Accepted}
 use Rattle.bankdef.specs.Check.{banks_of, check_of}
 use Rattle.bankdef.specs.Numbers.{bank_fault}
 use Rattle.bankdef.specs.Theorems.Numbers.{fault-anywhere}
@@ -21,10 +21,6 @@ use Rattle.iter.specs.Step.{seen_of, advanced_of, bank_after, malformed, step_of
 use Rattle.iter.specs.StepCases.{standing}
 use Rattle.iter.specs.Theorems.Told.{sound-told}
 use Rattle.iter.specs.Theorems.ToldFacts.{distance-told, sight-told, advance-told}
-use Rattle.iter.specs.declared.Distance.{Distance}
-use Rattle.iter.specs.declared.Distance.TheVariants.{Refused as NoDistance}
-use Rattle.iter.specs.declared.Moved.{Moved}
-use Rattle.iter.specs.declared.Moved.TheVariants.{To, Refused as Stopped}
 use Rattle.nodes.specs.Kinds.{last_kind}
 use Rattle.nodes.specs.declared.Node.{Node}
 use Rattle.iter.specs.declared.Pos.{Pos}
@@ -42,9 +38,9 @@ module _ (def : Bankdef) (tells : tellable def ≡ true) where
   measured-not (told.none h z) e = omega arith
   measured-not (told.next h k s a w) e = omega arith
 
-  distance-not : (position a node : ℕ) (why : Refusal) → distance_of def position a node ≡ NoDistance why → number_of why ≡ 4 → ⊥
+  distance-not : (position a node : ℕ) (why : Refusal) → distance_of def position a node ≡ Err why → number_of why ≡ 4 → ⊥
   distance-not position a node why e n =
-      measured-not (distance-told def position a node) (ap (λ (d : Distance). told_number (told_distance d)) e ∙ n)
+      measured-not (distance-told def position a node) (ap (λ (d : Result Skipped Refusal). told_number (told_distance d)) e ∙ n)
 
   module _ (at : Pos) (n : Node) where
     adds-not : (bits : ℕ) (known : Bool) {t : Told Pos} → Adds at bits known n.index t → told_number t ≡ 4 → ⊥
@@ -68,29 +64,29 @@ module _ (def : Bankdef) (tells : tellable def ≡ true) where
     advance-not k s (told.sets s' h known sets) e = omega arith
 
   module _ (walk : Walk) (n : Node) (k : n.kind ≤ last_kind) (s : SoundState n) (t : malformed (bank_after walk.bank n) n ≡ false) where
-    at-four : {m : Moved} {w why : Refusal} → m ≡ Stopped w → Stopped w ≡ Stopped why → number_of why ≡ 4 → told_number (told_moved m) ≡ 4
+    at-four : {m : Result Pos Refusal} {w why : Refusal} → m ≡ Err w → ◌≡◌ {A = Result Pos Refusal} (Err w) (Err why) → number_of why ≡ 4 → told_number (told_moved m) ≡ 4
     at-four e f n = let same = stopped-number f in rw e (same ∙ n)
       where
-        stopped-number : {a b : Refusal} → Stopped a ≡ Stopped b → number_of a ≡ number_of b
+        stopped-number : {a b : Refusal} → ◌≡◌ {A = Result Pos Refusal} (Err a) (Err b) → number_of a ≡ number_of b
         stopped-number e = cc
 
-    by-advance : (p : Pos) → seen_of def (standing walk n) n ≡ To p → (m : Moved) → advanced_of def p n ≡ m → (why : Refusal)
-        → (step_of def walk n).seen ≡ Stopped why
+    by-advance : (p : Pos) → seen_of def (standing walk n) n ≡ Ok p → (m : Result Pos Refusal) → advanced_of def p n ≡ m → (why : Refusal)
+        → (step_of def walk n).seen ≡ Err why
         → number_of why ≡ 4 → ⊥
-    by-advance p f (To q) a why e four =
+    by-advance p f (Ok q) a why e four =
         seen_apart (ap (λ (x : Stepped). x.seen) (moves def walk n (bank_after walk.bank n) refl t p q f a)) e
-    by-advance p f (Stopped w) a why e four =
+    by-advance p f (Err w) a why e four =
         let g = sym (ap (λ (x : Stepped). x.seen) (stuck def walk n (bank_after walk.bank n) refl t p w f a)) ∙ e in
         advance-not p n k s (advance-told def p n) (at-four a g four)
 
-    by-sight : (m : Moved) → seen_of def (standing walk n) n ≡ m → (why : Refusal) → (step_of def walk n).seen ≡ Stopped why → number_of why ≡ 4 → ⊥
-    by-sight (To p) f why e four = by-advance p f (advanced_of def p n) refl why e four
-    by-sight (Stopped w) f why e four =
+    by-sight : (m : Result Pos Refusal) → seen_of def (standing walk n) n ≡ m → (why : Refusal) → (step_of def walk n).seen ≡ Err why → number_of why ≡ 4 → ⊥
+    by-sight (Ok p) f why e four = by-advance p f (advanced_of def p n) refl why e four
+    by-sight (Err w) f why e four =
         let g = sym (ap (λ (x : Stepped). x.seen) (blind def walk n (bank_after walk.bank n) refl t w f)) ∙ e in
         sight-not (standing walk n) n (sight-told def (standing walk n) n) (at-four f g four)
 
     -- A step whose numbers are sound, in a bank that can be told, is not refused 4.
-    pub step-not-four : (why : Refusal) → (step_of def walk n).seen ≡ Stopped why → number_of why ≡ 4 → ⊥
+    pub step-not-four : (why : Refusal) → (step_of def walk n).seen ≡ Err why → number_of why ≡ 4 → ⊥
     step-not-four = by-sight (seen_of def (standing walk n) n) refl
 
 -- ---- a pass

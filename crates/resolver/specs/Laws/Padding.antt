@@ -1,5 +1,5 @@
 -- Laws that Theorems/Padding rests on.
-use Rattle.std.specs.Prelude.{ℕ, zero, suc, ◌+◌, ◌/◌, ◌^◌, ◌<◌, ◌≤◌, ◌≡◌, refl, Bool, true, false, List, ◌⊎◌, eqb, leb, get_or, set, length, replicate}
+use Rattle.std.specs.Prelude.{ℕ, zero, suc, ◌+◌, ◌/◌, ◌^◌, ◌<◌, ◌≤◌, ◌≡◌, refl, Bool, true, false, List, ◌⊎◌, eqb, leb, get_or, set, length, replicate, Ok, Err, Result, Option, None, Some}
 use Rattle.std.proofs.Common.{sym, ◌∙◌, ap, inl, inr, ⊎_elim, div-le_self, arith, length-set, get_or-set_same, get_or-set_other, eqb-true, leb-true, leb-false, le-leb}
 use Rattle.std.proofs.lemmas.Bool.{eqb-false, lt-leb}
 use Rattle.prelude.specs.Laws.Bools.{either, neither, unlike}
@@ -7,8 +7,6 @@ use Rattle.prelude.specs.Limits.{max_banks, max_position}
 use Rattle.prelude.specs.Pick.{pick}
 use Rattle.prelude.specs.Told.{Told, gives, refuses, told_number}
 use Rattle.prelude.specs.Theorems.Told.{number-some}
-use Rattle.prelude.specs.declared.Opt.{Opt}
-use Rattle.prelude.specs.declared.Opt.TheVariants.{None, Some}
 use Rattle.prelude.specs.declared.Place.{Place}
 use Rattle.prelude.specs.declared.Refusal.{Refusal}
 use Rattle.prelude.specs.declared.Refusal.TheVariants.{PositionPast, Malformed}
@@ -28,10 +26,7 @@ use Rattle.iter.specs.Laws.StepCases.{step-cases}
 use Rattle.iter.specs.Theorems.StepFacts.{made-sound}
 use Rattle.iter.specs.Laws.StepFacts.{sees_plain}
 use Rattle.iter.specs.Theorems.ToldFacts.{advance-told}
-use Rattle.iter.specs.declared.Distance.{Distance}
-use Rattle.iter.specs.declared.Distance.TheVariants.{Skips, Refused as NoDistance}
 use Rattle.iter.specs.declared.Lost.{Lost}
-use Rattle.iter.specs.declared.Moved.TheVariants.{To, Refused as Stopped}
 use Rattle.nodes.specs.Kinds.{size_of}
 use Rattle.nodes.specs.declared.Node.{Node}
 use Rattle.iter.specs.declared.Pos.{Pos}
@@ -67,44 +62,44 @@ module _ (p : Program) (row : Row) where
 
   -- No node before node n stops the walk: each sees a position.
   abbrev pub Walks : ℕ → Type 0
-  Walks n = (j : ℕ) → j < n → (now : Pos) × (seen_at p row j ≡ To now)
+  Walks n = (j : ℕ) → j < n → (now : Pos) × (seen_at p row j ≡ Ok now)
 
 -- ---- one step
 
-never-to : {why : Refusal} {s : Pos} → Stopped why ≡ To s → ⊥
+never-to : {why : Refusal} {s : Pos} → Err why ≡ Ok s → ⊥
 never-to e = unlike cc
 
-to_same : {a b : Pos} → To a ≡ To b → a ≡ b
+to_same : {a b : Pos} → ◌≡◌ {A = Result Pos Refusal} (Ok a) (Ok b) → a ≡ b
 to_same e = cc
 
 never-gives : {s : Pos} {n : ℕ} {place : Place} → 0 < n → refuses n place ≡ gives s → ⊥
 never-gives {n = n} h e = let z : n ≡ 0 = ap (λ (t : Told Pos). told_number t) e in omega arith
 
 -- a distance that is told has the bits of the definition
-told-bits : (def : Bankdef) (position a index : ℕ) (t : Skipped) → distance_of def position a index ≡ Skips t → t.bits ≡ distance_in def position a
+told-bits : (def : Bankdef) (position a index : ℕ) (t : Skipped) → distance_of def position a index ≡ Ok t → t.bits ≡ distance_in def position a
 unfolding distance_of
 told-bits def position a index t e = go (tellable def) e
   where
-    skips-same : {s t : Skipped} → Skips s ≡ Skips t → s ≡ t
+    skips-same : {s t : Skipped} → ◌≡◌ {A = Result Skipped Refusal} (Ok s) (Ok t) → s ≡ t
     skips-same e = cc
 
-    go : (b : Bool) → pick b (Skips (skips_of def (distance_to (address_in_bits def position) a))) (NoDistance (Malformed index)) ≡ Skips t
+    go : (b : Bool) → pick b (Ok (skips_of def (distance_to (address_in_bits def position) a))) (Err (Malformed index)) ≡ Ok t
         → t.bits ≡ distance_to (address_in_bits def position) a
     go true f = ap (λ (s : Skipped). s.bits) (sym (skips-same f))
     go false f = absurd (let z : ◌≡◌ {A = ℕ} 0 1 = cc in let b : ⊥ = omega arith in b)
 
 -- what a move by a distance that is made tells
-record Aligned (x : Distance) (at s : Pos) : Type 0 where
+record Aligned (x : Result Skipped Refusal) (at s : Pos) : Type 0 where
   by : Skipped
-  told : x ≡ Skips by
+  told : x ≡ Ok by
   sum : s.position ≡ at.position + by.bits
   within : at.position + by.bits ≤ max_position
 
-by-distance : (at : Pos) (x : Distance) (known : Bool) (index : ℕ) (s : Pos) → moved_by_distance at x known index ≡ To s → Aligned x at s
-by-distance at (Skips t) known index s e = go (leb (at.position + t.bits) max_position) refl e
+by-distance : (at : Pos) (x : Result Skipped Refusal) (known : Bool) (index : ℕ) (s : Pos) → moved_by_distance at x known index ≡ Ok s → Aligned x at s
+by-distance at (Ok t) known index s e = go (leb (at.position + t.bits) max_position) refl e
   where
     go : (b : Bool) → leb (at.position + t.bits) max_position ≡ b
-        → pick b (To (record { position = at.position + t.bits; known = known })) (Stopped (PositionPast index)) ≡ To s → Aligned (Skips t) at s
+        → pick b (Ok (record { position = at.position + t.bits; known = known })) (Err (PositionPast index)) ≡ Ok s → Aligned (Ok t) at s
     go true h f = record {
       by = t;
       told = refl;
@@ -112,7 +107,7 @@ by-distance at (Skips t) known index s e = go (leb (at.position + t.bits) max_po
       within = leb-true (at.position + t.bits) max_position h;
     }
     go false h f = absurd (never-to f)
-by-distance at (NoDistance why) known index s e = absurd (never-to e)
+by-distance at (Err why) known index s e = absurd (never-to e)
 
 module _ (def : Bankdef) (at : Pos) (n : Node) (s : Pos) where
   -- what is lost to label alignment is what a symbol that is aligned moves by
@@ -121,27 +116,27 @@ module _ (def : Bankdef) (at : Pos) (n : Node) (s : Pos) where
     sum : s.position ≡ at.position + lost
     within : lost ≤ max_position
 
-  unmoved : To at ≡ To s → Sight no_skip 0
+  unmoved : ◌≡◌ {A = Result Pos Refusal} (Ok at) (Ok s) → Sight no_skip 0
   unmoved e = let q = ap (λ (x : Pos). x.position) (to_same e) in record { bits = refl; sum = omega arith; within = omega arith }
 
-  label : (o : Opt) → label_aligned def o at n.index ≡ To s → Sight (label_skips def o at n.index) (label_loses def o at.position)
+  label : (o : Option ℕ) → label_aligned def o at n.index ≡ Ok s → Sight (label_skips def o at n.index) (label_loses def o at.position)
   label None e = unmoved e
   label (Some a) e =
       let m = by-distance at (distance_of def at.position a n.index) at.known n.index s e in
       let b = told-bits def at.position a n.index m.by m.told in
       let w = m.within in
       record {
-        bits = ap (λ (x : Distance). (skips_by x).bits) m.told ∙ b;
+        bits = ap (λ (x : Result Skipped Refusal). (skips_by x).bits) m.told ∙ b;
         sum = m.sum ∙ ap (λ (x : ℕ). at.position + x) b;
         within = rw (← b) (omega arith);
       }
 
-  sighted : (t : Bool) → pick t (label_aligned def def.align at n.index) (To at) ≡ To s
+  sighted : (t : Bool) → pick t (label_aligned def def.align at n.index) (Ok at) ≡ Ok s
       → Sight (pick t (label_skips def def.align at n.index) no_skip) (pick t (label_loses def def.align at.position) 0)
   sighted true e = label def.align e
   sighted false e = unmoved e
 
-  sight : seen_of def at n ≡ To s → Sight (seen_skips def at n) (sight_loses def at.position n)
+  sight : seen_of def at n ≡ Ok s → Sight (seen_skips def at n) (sight_loses def at.position n)
   unfolding seen_of seen_skips
   sight e = rw e (sighted (outermost_symbol n) e)
 
@@ -154,7 +149,7 @@ module _ (def : Bankdef) (at : Pos) (n : Node) (s : Pos) where
 
   -- an `align` that is made
   own-from : (q : Pos) {t : Told Pos} → n.kind ≡ 8 → Advances def s n t → t ≡ gives q
-      → (d : Skipped) × (distance_of def s.position n.number n.index ≡ Skips d) × (s.position + d.bits ≤ max_position)
+      → (d : Skipped) × (distance_of def s.position n.number n.index ≡ Ok d) × (s.position + d.bits ≤ max_position)
   own-from q k (told.unknown h) e = absurd (never-gives (omega arith) e)
   own-from q k (told.badly h b) e = absurd (never-gives (omega arith) e)
   own-from q k (told.stays x h) e = absurd (⊎_elim (λ (l : n.kind ≤ 3). let b : ⊥ = omega arith in b) (λ (l : n.kind ≡ 10). let b : ⊥ = omega arith in b) h)
@@ -173,12 +168,12 @@ module _ (def : Bankdef) (at : Pos) (n : Node) (s : Pos) where
   no_size (inl h) = rw (lt-leb 4 n.kind h)
   no_size (inr h) = rw (lt-leb n.kind 7 h, le-leb 4 n.kind (omega arith))
 
-  own-skips : (q : Pos) (d : Skipped) → eqb n.kind 8 ≡ true → advanced_of def s n ≡ To q
-      → distance_of def s.position n.number n.index ≡ Skips d → advance_skips def s n ≡ d
+  own-skips : (q : Pos) (d : Skipped) → eqb n.kind 8 ≡ true → advanced_of def s n ≡ Ok q
+      → distance_of def s.position n.number n.index ≡ Ok d → advance_skips def s n ≡ d
   unfolding advance_skips
   own-skips q d t a e = rw (a, t, e)
 
-  own-made : (q : Pos) → eqb n.kind 8 ≡ true → seen_of def at n ≡ To s → advanced_of def s n ≡ To q → Made q
+  own-made : (q : Pos) → eqb n.kind 8 ≡ true → seen_of def at n ≡ Ok s → advanced_of def s n ≡ Ok q → Made q
   own-made q t e a =
       let k = eqb-true n.kind 8 t in
       let same : at ≡ s = to_same (sym (sees_plain def at n (not-outer k)) ∙ e) in
@@ -200,7 +195,7 @@ module _ (def : Bankdef) (at : Pos) (n : Node) (s : Pos) where
       plus-alone : (x : ℕ) {y z : ℕ} → y ≡ z → x + y ≡ x + 0 + z
       plus-alone x e = omega arith
 
-  known-kind : (q : Pos) → advanced_of def s n ≡ To q → n.kind ≤ 10
+  known-kind : (q : Pos) → advanced_of def s n ≡ Ok q → n.kind ≤ 10
   known-kind q a =
       ⊎_elim (λ (h : n.kind ≤ 10). h)
       (λ (h : 10 < n.kind).
@@ -213,7 +208,7 @@ module _ (def : Bankdef) (at : Pos) (n : Node) (s : Pos) where
   plus_none : (l : ℕ) {x y z : ℕ} → x ≡ y → z ≡ 0 → y ≡ at.position + l → x ≡ at.position + z + l
   plus_none l e z f = omega arith
 
-  ends_by : (q : Pos) → (n.kind ≡ 8 → ⊥) → (n.kind ≡ 9 → ⊥) → advanced_of def s n ≡ To q → Sight (seen_skips def at n) (sight_loses def at.position n)
+  ends_by : (q : Pos) → (n.kind ≡ 8 → ⊥) → (n.kind ≡ 9 → ⊥) → advanced_of def s n ≡ Ok q → Sight (seen_skips def at n) (sight_loses def at.position n)
       → q.position ≡ at.position + size_of n + sight_loses def at.position n
   ends_by q eight nine a x =
       let moves = advance-moves def s n q a in
@@ -228,14 +223,14 @@ module _ (def : Bankdef) (at : Pos) (n : Node) (s : Pos) where
       (or-past n.kind 7))
       (or-past n.kind 3)
 
-  sight-made : (q : Pos) → eqb n.kind 8 ≡ false → seen_of def at n ≡ To s → advanced_of def s n ≡ To q → Made q
+  sight-made : (q : Pos) → eqb n.kind 8 ≡ false → seen_of def at n ≡ Ok s → advanced_of def s n ≡ Ok q → Made q
   sight-made q t e a =
       let k = eqb-false n.kind 8 t in
       let x = sight e in
       record { lost = rw t x.bits; within = rw t x.within; ends = λ nine. rw t (ends_by q k nine a x) }
 
   -- A step that is made loses what the definition says, and moves by the node's bits and what it loses.
-  pub made : (q : Pos) → seen_of def at n ≡ To s → advanced_of def s n ≡ To q → Made q
+  pub made : (q : Pos) → seen_of def at n ≡ Ok s → advanced_of def s n ≡ Ok q → Made q
   made q e a = either (eqb n.kind 8) (λ t. own-made q t e a) (λ t. sight-made q t e a)
 
 -- a measure of an element that is set to what it was and more
@@ -254,7 +249,7 @@ pub same-lost : (x y : Lost) → ((part : Part) → lost_part part x ≡ lost_pa
 same-lost x y e =
     ap (λ (b : ℕ). record { bits = b; units = x.units }) (e the-bits) ∙ ap (λ (u : ℕ). record { bits = y.bits; units = u }) (e the-units)
 
-module _ (def : Bankdef) (walk : Walk) (n : Node) (now : Pos) (seen : (step_of def walk n).seen ≡ To now) where
+module _ (def : Bankdef) (walk : Walk) (n : Node) (now : Pos) (seen : (step_of def walk n).seen ≡ Ok now) where
   abbrev pub bank : ℕ
   bank = bank_after walk.bank n
 
@@ -266,7 +261,7 @@ module _ (def : Bankdef) (walk : Walk) (n : Node) (now : Pos) (seen : (step_of d
 
   step-bits : lost_by def position n ≤ max_position
   step-bits =
-      step-cases def walk n (λ (x : Stepped). x.seen ≡ To now → lost_by def position n ≤ max_position) (λ why e. absurd (never-to e))
+      step-cases def walk n (λ (x : Stepped). x.seen ≡ Ok now → lost_by def position n ≤ max_position) (λ why e. absurd (never-to e))
       (λ s q e a f. (made def (standing walk n) n s q e a).within) seen
 
   -- no more bits than a position holds, and no more units
@@ -284,7 +279,7 @@ module _ (def : Bankdef) (walk : Walk) (n : Node) (now : Pos) (seen : (step_of d
       → lost_in part (step_of def walk n).walk j ≡ lost_in part walk j + pick (eqb bank j) (part_by part def position n) 0
   step-carries part sixteen room j =
       step-cases def walk n
-      (λ (x : Stepped). x.seen ≡ To now → lost_in part x.walk j ≡ lost_in part walk j + pick (eqb bank j) (part_by part def position n) 0)
+      (λ (x : Stepped). x.seen ≡ Ok now → lost_in part x.walk j ≡ lost_in part walk j + pick (eqb bank j) (part_by part def position n) 0)
       (λ why e. absurd (never-to e))
       (λ s q e a f.
       let small = step-loses part in
@@ -300,7 +295,7 @@ module _ (def : Bankdef) (walk : Walk) (n : Node) (now : Pos) (seen : (step_of d
       → (get_or (step_of def walk n).walk.at j origin).position ≡ (get_or walk.at j origin).position + pick (eqb bank j) (size_of n + lost_by def position n) 0
   step-moves sixteen j nine =
       step-cases def walk n
-      (λ (x : Stepped). x.seen ≡ To now
+      (λ (x : Stepped). x.seen ≡ Ok now
       → (get_or x.walk.at j origin).position ≡ (get_or walk.at j origin).position + pick (eqb bank j) (size_of n + lost_by def position n) 0)
       (λ why e. absurd (never-to e))
       (λ s q e a f.

@@ -1,12 +1,10 @@
 -- Laws that proofs about Told need.
-use Rattle.std.specs.Prelude.{ℕ, ◌≡◌}
+use Rattle.std.specs.Prelude.{ℕ, ◌≡◌, Result, Err, Ok}
 use Rattle.std.proofs.Common.{ap, arith}
 use Rattle.prelude.specs.Told.{Told, refuses, told_refusal}
 use Rattle.prelude.specs.Theorems.Told.{refusal-by-figures}
 use Rattle.prelude.specs.declared.Place.{Place}
 use Rattle.prelude.specs.declared.Refusal.{Refusal}
-use Rattle.resolver.specs.declared.Settled.{Settled}
-use Rattle.resolver.specs.declared.Settled.TheVariants.{At, Refused}
 use Rattle.resolver.specs.Told.{told_settled}
 
 number_same : {m n : ℕ} {p q : Place} → ◌≡◌ {A = Told ℕ} (refuses m p) (refuses n q) → m ≡ n
@@ -16,6 +14,6 @@ place_same : {m n : ℕ} {p q : Place} → ◌≡◌ {A = Told ℕ} (refuses m p
 place_same e = cc
 
 -- Number and place tell the refusal.
-pub by-figures : (x : Settled) (why : Refusal) → told_settled x ≡ told_refusal why → x ≡ Refused why
-by-figures (At k) why e = absurd (let z : ◌≡◌ {A = ℕ} 0 1 = cc in let b : ⊥ = omega arith in b)
-by-figures (Refused other) why e = ap Refused (refusal-by-figures other why (number_same e) (place_same e))
+pub by-figures : (x : Result ℕ Refusal) (why : Refusal) → told_settled x ≡ told_refusal why → x ≡ Err why
+by-figures (Ok k) why e = absurd (let z : ◌≡◌ {A = ℕ} 0 1 = cc in let b : ⊥ = omega arith in b)
+by-figures (Err other) why e = ap Err (refusal-by-figures other why (number_same e) (place_same e))

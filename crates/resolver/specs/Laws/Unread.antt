@@ -1,20 +1,19 @@
 -- Laws that Theorems/Unread rests on.
 use Prim.Native.Nat.{ℕ, zero, suc, ◌+◌, ◌-◌, ◌*◌, ◌≤◌, ◌<◌, min}
-use Rattle.std.specs.Prelude.{◌≡◌, Bool, ◌&&◌, ◌||◌, List, eqb, leb, ltb, get_or, length}
+use Rattle.std.specs.Prelude.{◌≡◌, Bool, ◌&&◌, ◌||◌, List, eqb, leb, ltb, get_or, length, Result, Ok, Err}
 use Rattle.std.proofs.Math.Path.{refl, ap, fun_ext}
 use Rattle.std.proofs.Common.{sym, ◌∙◌, ⊎_elim, arith, eq-eqb, eqb-true, leb-true, leb-false, lt-ltb, ltb-false, le-ltb}
 use Rattle.std.proofs.lemmas.Bool.{eqb-false}
-use Rattle.prelude.specs.declared.Verdict.{Verdict}
-use Rattle.prelude.specs.declared.Verdict.TheVariants.{Accepted, Refused}
 use Rattle.prelude.specs.Laws.Bools.{either, neither}
+use Rattle.prelude.specs.Verdict.{Accepted, Verdict}
+use Rattle.prelude.specs.declared.Refusal.{Refusal}
 use Rattle.bankdef.specs.Check.{check_of}
 use Rattle.bankdef.specs.declared.Bankdefs.{Bankdefs}
-use Rattle.iter.specs.declared.Moved.{Moved}
-use Rattle.iter.specs.declared.Moved.TheVariants.{To, Refused as Stopped}
 use Rattle.nodes.specs.Kinds.{is_item, ReadsNumber, last_kind, is_unknown}
 use Rattle.nodes.specs.declared.Node.{Node}
 use Rattle.iter.specs.declared.Stepped.{Stepped}
 use Rattle.iter.specs.declared.Walk.{Walk}
+use Rattle.iter.specs.declared.Pos.{Pos}
 use Rattle.resolver.specs.Theorems.FirstRow.{state-of-its-row, number-of-its-row, declared-number-of-first-row}
 use Rattle.resolver.specs.Layout.{unless, layout_of}
 use Rattle.resolver.specs.Laws.Least.{or-past}
@@ -25,7 +24,6 @@ use Rattle.nodes.specs.Theorems.Sound.{accepted-node, accepted-lists}
 use Rattle.resolver.specs.UnreadStep.{SameRead}
 use Rattle.resolver.specs.Theorems.UnreadStep.{bank-same, step_same}
 use Rattle.resolver.specs.declared.Choices.{Choices}
-use Rattle.resolver.specs.declared.Pass.{Pass}
 
 -- ---- the same, with the kinds and the rows in common
 
@@ -169,15 +167,15 @@ module _ (banks : Bankdefs) (kinds : List ℕ) (rows : ℕ) (operands numbers st
         (or-past 3 (get_or kinds i 0))
 
     module _ (r s : ℕ) (h : r < rows) (k : s < rows) (is_first is_last : Bool) where
-      met-same : (i : ℕ) → i < length kinds → (walk : Walk) (before : Moved) (merged : ℕ) (seen : Moved) →
+      met-same : (i : ℕ) → i < length kinds → (walk : Walk) (before : Result Pos Refusal) (merged : ℕ) (seen : Result Pos Refusal) →
           met (bank_of banks walk (node_one r i)) (node_one r i) before is_first is_last merged seen ≡ met (bank_of banks walk (node_two r i))
           (node_two r i) before is_first is_last merged seen
       met-same i g walk before merged seen =
           rw (bank-same (node_one r i) (node_two r i) (same-node r i h g (known-kind i g)) walk.bank) (by-seen (bank_of banks walk (node_two r i)) seen)
         where
-          by-seen : (def : _) (seen : Moved) → met def (node_one r i) before is_first is_last merged seen ≡ met def (node_two r i) before is_first is_last merged seen
-          by-seen def (To now) = rw (state-same r h i g (label_state def now before is_first))
-          by-seen def (Stopped why) = refl
+          by-seen : (def : _) (seen : Result Pos Refusal) → met def (node_one r i) before is_first is_last merged seen ≡ met def (node_two r i) before is_first is_last merged seen
+          by-seen def (Ok now) = rw (state-same r h i g (label_state def now before is_first))
+          by-seen def (Err why) = refl
 
       meets-same : (i : ℕ) → i < length kinds → (g : Going)
           → meets (program banks one) (row_at one r) (row_at one s) is_first is_last i g ≡ meets (program banks two) (row_at two r) (row_at two s) is_first
@@ -209,7 +207,7 @@ module _ (banks : Bankdefs) (kinds : List ℕ) (rows : ℕ) (operands numbers st
         ap closed (pass-to-same (min n rows - 1) (min (n - 1) rows - 1) (in_rows n) (in_rows (n - 1)) (eqb n 1) is_last (length kinds) (omega arith))
 
     settled_same : (m : ℕ) → resolution_of banks one m ≡ resolution_of banks two m
-    settled_same m = ap (λ (pass : ℕ → Bool → Pass). settled_by pass m) (fun_ext (λ n. fun_ext (λ b. pass_same n b)))
+    settled_same m = ap (λ (pass : ℕ → Bool → Result ℕ Refusal). settled_by pass m) (fun_ext (λ n. fun_ext (λ b. pass_same n b)))
 
   pub layout-same : (choices : Choices) → layout_of banks one choices ≡ layout_of banks two choices
   unfolding layout_of
@@ -219,4 +217,4 @@ module _ (banks : Bankdefs) (kinds : List ℕ) (rows : ℕ) (operands numbers st
           unless (lists_of banks.len one choices.fill) (resolution_of banks one choices.limit) ≡
           unless (lists_of banks.len two choices.fill) (resolution_of banks two choices.limit)
       by-check Accepted e = rw (← (check-same choices.fill), e) (settled_same choices.fill e choices.limit)
-      by-check (Refused why) e = rw (← (check-same choices.fill), e)
+      by-check (Err why) e = rw (← (check-same choices.fill), e)

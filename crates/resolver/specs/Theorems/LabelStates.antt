@@ -1,16 +1,16 @@
 -- Theorems about what LabelStates defines.
 use Prim.Native.Nat.{ℕ, zero, suc, ◌-◌, ◌<◌, ◌≤◌}
-use Rattle.std.specs.Prelude.{◌≡◌, Bool, true, false, not, ◌&&◌, ◌↔◌, eqb, get_or, length}
+use Rattle.std.specs.Prelude.{◌≡◌, Bool, true, false, not, ◌&&◌, ◌↔◌, eqb, get_or, length, Ok, Result, Err}
 use Rattle.std.proofs.Math.Path.{refl, ap}
 use Rattle.std.proofs.Common.{sym, ◌∙◌, arith, ne_eqb}
 use Rattle.prelude.specs.Pick.{pick}
 use Rattle.prelude.specs.Laws.Bools.{both, clash}
+use Rattle.prelude.specs.declared.Refusal.{Refusal}
 use Rattle.bankdef.specs.declared.Bankdef.{Bankdef}
 use Rattle.bankdef.specs.declared.Bankdefs.{Bankdefs}
 use Rattle.iter.specs.Address.{on_boundary}
 use Rattle.iter.specs.Step.{bank_after, start_of, step_of}
 use Rattle.iter.specs.Laws.StepCases.{step-cases}
-use Rattle.iter.specs.declared.Moved.TheVariants.{To}
 use Rattle.nodes.specs.declared.Node.{Node}
 use Rattle.iter.specs.declared.Pos.{Pos}
 use Rattle.iter.specs.declared.Stepped.{Stepped}
@@ -25,12 +25,10 @@ use Rattle.resolver.specs.Laws.PassStates.{seen_in, def_in, state_in}
 use Rattle.resolver.specs.PassStates.{node_in}
 use Rattle.resolver.specs.Passes.{program, row_of_pass, pass_at, unresolved}
 use Rattle.resolver.specs.Walked.{state_seen}
-use Rattle.resolver.specs.declared.Pass.{Pass}
-use Rattle.resolver.specs.declared.Pass.TheVariants.{State, Refused}
 use Rattle.resolver.specs.LabelStates.{KnownOnBoundary, SameAddress}
 use Rattle.resolver.specs.Laws.LabelStates.{not_first, not-held, resolved-of, same-told, settled-told, stable-of, told_same, told-settled}
 
-module _ (banks : Bankdefs) (l : Lists) (n i : ℕ) (label : get_or l.kinds i 0 ≡ 2) (now : Pos) (seen : seen_in banks l n i ≡ To now) where
+module _ (banks : Bankdefs) (l : Lists) (n i : ℕ) (label : get_or l.kinds i 0 ≡ 2) (now : Pos) (seen : seen_in banks l n i ≡ Ok now) where
   -- what a label's state is, by what it sees
   of-label : state_in banks l n i ≡ label_state (def_in banks l n i) now (seen_in banks l (n - 1) i) (eqb n 1)
   of-label =
@@ -77,10 +75,10 @@ module _ (p : Program) where
   switched_to zero = 0
   switched_to (suc i) = pick (eqb (get_or p.kinds i 0) 1) (get_or p.operands i 0) (switched_to i)
 
-  step-switches : (def : Bankdef) (walk : Walk) (x : Node) (now : Pos) → (step_of def walk x).seen ≡ To now
+  step-switches : (def : Bankdef) (walk : Walk) (x : Node) (now : Pos) → (step_of def walk x).seen ≡ Ok now
       → (step_of def walk x).walk.bank ≡ bank_after walk.bank x
   step-switches def walk x now =
-      step-cases def walk x (λ (s : Stepped). s.seen ≡ To now → s.walk.bank ≡ bank_after walk.bank x) (λ why e. absurd (seen_apart e refl))
+      step-cases def walk x (λ (s : Stepped). s.seen ≡ Ok now → s.walk.bank ≡ bank_after walk.bank x) (λ why e. absurd (seen_apart e refl))
       (λ a b s m e. refl)
 
   -- A walk that no node before i stops stands in the bank that the switches say, whatever the row.
@@ -93,12 +91,12 @@ module _ (p : Program) where
       ∙ ap (λ (b : ℕ). bank_after b (node p row i)) (bank-by-switches row is_last i (λ j h. all j (omega arith)))
 
 module _ (banks : Bankdefs) (l : Lists) (m n : ℕ) (is_last : Bool) (later : 2 ≤ n) where
-  ended_so : (k : ℕ) (s : ℕ) → pass_at banks l k false ≡ State s → (i : ℕ) → i < length l.kinds → GoesPast (program banks l) (row_of_pass l k) false i
+  ended_so : (k : ℕ) (s : ℕ) → pass_at banks l k false ≡ Ok s → (i : ℕ) → i < length l.kinds → GoesPast (program banks l) (row_of_pass l k) false i
   ended_so k s e = ran-to-end (program banks l) (row_of_pass l k) (row_of_pass l (k - 1)) (eqb k 1) false s e
 
-  two-of : (x : Pass) → unresolved x ≡ true → (s : ℕ) × (x ≡ State s)
-  two-of (State s) e = (s, refl)
-  two-of (Refused why) e = absurd (let z : ◌≡◌ {A = ℕ} 0 1 = cc in let b : ⊥ = omega arith in b)
+  two-of : (x : Result ℕ Refusal) → unresolved x ≡ true → (s : ℕ) × (x ≡ Ok s)
+  two-of (Ok s) e = (s, refl)
+  two-of (Err why) e = absurd (let z : ◌≡◌ {A = ℕ} 0 1 = cc in let b : ⊥ = omega arith in b)
 
   -- Where pass n runs, from pass 2 on, the pass before has gone past every node.
   pub before-ran : Runs (pass_at banks l) m n is_last → (i : ℕ) → i < length l.kinds → GoesPast (program banks l) (row_of_pass l (n - 1)) false i

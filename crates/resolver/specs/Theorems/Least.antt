@@ -1,13 +1,13 @@
 -- Pass K is the least pass that is not unresolved, where the limit lets one be found.
-use Rattle.std.specs.Prelude.{ℕ, ◌<◌, ◌≤◌, ◌≡◌, Bool, true, false, not, eqb}
+use Rattle.std.specs.Prelude.{ℕ, ◌<◌, ◌≤◌, ◌≡◌, Bool, true, false, not, eqb, Result}
 use Rattle.std.proofs.Common.{arith}
 use Rattle.std.proofs.lemmas.Bool.{not-true, not-false}
+use Rattle.prelude.specs.declared.Refusal.{Refusal}
 use Rattle.resolver.specs.Passes.{pass_k, unresolved}
-use Rattle.resolver.specs.declared.Pass.{Pass}
 use Rattle.resolver.specs.Laws.Least.{first_found, first-least, first-low}
 
 -- Pass K of a limit, where `pass n is_last` is what pass n comes to.
-module _ (pass : ℕ → Bool → Pass) (m : ℕ) where
+module _ (pass : ℕ → Bool → Result ℕ Refusal) (m : ℕ) where
   -- every pass before K is unresolved
   pub before-K : (p : ℕ) → 1 ≤ p → p < pass_k pass m → unresolved (pass p (eqb p m)) ≡ true
   before-K p low high = not-false (unresolved (pass p (eqb p m))) (first-least (λ n. not (unresolved (pass n (eqb n m)))) 1 m p low high)

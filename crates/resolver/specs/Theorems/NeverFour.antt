@@ -1,13 +1,12 @@
 -- After the checks of the banks and of the lists no pass gives 4: each node stands in a bank of the table, whose addresses can be told, and its
 -- kind and its state are sound.
-use Rattle.std.specs.Prelude.{ℕ, ◌<◌, ◌≤◌, ◌≡◌, Bool, ◌&&◌, eqb, leb, get_or, length}
+use Rattle.std.specs.Prelude.{ℕ, ◌<◌, ◌≤◌, ◌≡◌, Bool, ◌&&◌, eqb, leb, get_or, length, Err}
 use Rattle.std.proofs.Common.{ltb-false}
 use Rattle.prelude.specs.Refusals.{number_of}
 use Rattle.prelude.specs.declared.Refusal.{Refusal}
 use Rattle.prelude.specs.Laws.Bools.{neither}
 use Rattle.bankdef.specs.declared.Bankdefs.{Bankdefs}
 use Rattle.iter.specs.Step.{bank_after}
-use Rattle.iter.specs.declared.Moved.TheVariants.{Refused as Stopped}
 use Rattle.resolver.specs.Layout.{Checked}
 use Rattle.nodes.specs.Kinds.{last_kind, is_unknown}
 use Rattle.nodes.specs.Lists.{Lists, node_of, head_fault, any_row_fault}
@@ -32,7 +31,7 @@ module _ (banks : Bankdefs) (l : Lists) {fill : ℕ} (c : Checked banks l fill) 
   -- No node of a pass is refused 4.
   pub never-four : banks.len ≤ length banks.defs → (n i : ℕ) (is_last : Bool) → i < length l.kinds
       → ((j : ℕ) → j < i → GoesPast (program banks l) (row_of_pass l n) is_last j)
-      → (why : Refusal) → seen_at (program banks l) (row_of_pass l n) i ≡ Stopped why → number_of why ≡ 4 → ⊥
+      → (why : Refusal) → seen_at (program banks l) (row_of_pass l n) i ≡ Err why → number_of why ≡ 4 → ⊥
   never-four whole n i is_last h all =
       let walk = walk_to (program banks l) (row_of_pass l n) i in
       step-not-four (def_at (program banks l) (row_of_pass l n) i)

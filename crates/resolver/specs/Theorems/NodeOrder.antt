@@ -1,6 +1,6 @@
 -- Theorems about what NodeOrder defines.
 use Prim.Native.Nat.{ℕ, zero, suc, ◌%◌, ◌<◌, ◌≤◌, max}
-use Rattle.std.specs.Prelude.{◌≡◌, Bool, not, ◌&&◌, ◌⊎◌, eqb, get_or, length}
+use Rattle.std.specs.Prelude.{◌≡◌, Bool, not, ◌&&◌, ◌⊎◌, eqb, get_or, length, Err, Result, Ok}
 use Rattle.std.proofs.Math.Path.{refl}
 use Rattle.std.proofs.Common.{sym, ◌∙◌, subst, ⊎_elim, eq-or-lt_of_le, le_of_suc-le-suc, not-suc-le-zero, arith, eq-eqb, eqb-true}
 use Rattle.std.proofs.Math.Bool.{true, false}
@@ -11,21 +11,18 @@ use Rattle.prelude.specs.declared.Refusal.{Refusal}
 use Rattle.prelude.specs.declared.Refusal.TheVariants.{LabelOffBoundary}
 use Rattle.prelude.specs.Laws.Bools.{clash, both}
 use Rattle.iter.specs.Address.{on_boundary}
-use Rattle.iter.specs.declared.Moved.{Moved}
-use Rattle.iter.specs.declared.Moved.TheVariants.{To, Refused as Stopped}
 use Rattle.iter.specs.declared.Pos.{Pos}
 use Rattle.resolver.specs.Laws.Least.{or-past}
 use Rattle.nodes.specs.Lists.{Row}
 use Rattle.resolver.specs.Once.{Program, Going, on, off, node, step_at, walk_to, label_state}
 use Rattle.resolver.specs.Once.{state_of, off_boundary, met, goes_on, meets, pass_to, pass_of}
-use Rattle.resolver.specs.declared.Pass.TheVariants.{State, Refused}
 use Rattle.resolver.specs.Laws.NodeOrder.{ended, not-ended, refused-by, refused-for, seen_apart, stopped-same}
 use Rattle.resolver.specs.NodeOrder.{GoesPast, OffBoundary, def_at, seen_at}
 
 module _ (p : Program) (row : Row) where
   -- what a pass is refused for at node i: what stops the walk there, or 7 in the last pass
   abbrev pub StopsAt : Bool → ℕ → Refusal → Type 0
-  StopsAt is_last i why = ((seen_at p row) i ≡ Stopped why) ⊎ ((is_last ≡ true) × (OffBoundary p row) i × (why ≡ LabelOffBoundary i))
+  StopsAt is_last i why = ((seen_at p row) i ≡ Err why) ⊎ ((is_last ≡ true) × (OffBoundary p row) i × (why ≡ LabelOffBoundary i))
 
   -- node i, one of the first n, is the first that a pass is refused at
   pub record MeetsFirst (is_last : Bool) (n i : ℕ) (why : Refusal) : Type 0 where
@@ -39,7 +36,7 @@ module _ (p : Program) (row : Row) where
       let same : g.now ≡ o.1.now = to_same (sym g.seen ∙ o.1.seen) in
       o.1.off (rw same at (g.on o.0 o.1.label))
     where
-      to_same : {a b : Pos} → To a ≡ To b → a ≡ b
+      to_same : {a b : Pos} → ◌≡◌ {A = Result Pos Refusal} (Ok a) (Ok b) → a ≡ b
       to_same e = cc
 
   stops-one : (is_last : Bool) (i : ℕ) {why other : Refusal} → StopsAt is_last i why → StopsAt is_last i other → why ≡ other
@@ -83,16 +80,16 @@ module _ (p : Program) (row : Row) where
     and-this n all this j h =
         ⊎_elim (λ (q : j ≡ n). rw q this) (λ (g : j < n). all j g) (eq-or-lt_of_le (le_of_suc-le-suc h))
 
-    met-way : (n s : ℕ) → ((j : ℕ) → j < n → (GoesPast p row) is_last j) → (seen : Moved) → (seen_at p row) n ≡ seen →
+    met-way : (n s : ℕ) → ((j : ℕ) → j < n → (GoesPast p row) is_last j) → (seen : Result Pos Refusal) → (seen_at p row) n ≡ seen →
         Way (suc n) (goes_on (step_at p row (walk_to p row n) n).walk
         (met ((def_at p row) n) (node p row n) (step_at p before (walk_to p before n) n).seen is_first is_last s seen))
     unfolding walk_to
-    met-way n s all (Stopped why) e = inr (n, why, refl, record { listed = omega arith; here = inl e; before = all })
-    met-way n s all (To now) e = tested (off_boundary ((def_at p row) n) (node p row n) now is_last) refl
+    met-way n s all (Err why) e = inr (n, why, refl, record { listed = omega arith; here = inl e; before = all })
+    met-way n s all (Ok now) e = tested (off_boundary ((def_at p row) n) (node p row n) now is_last) refl
       where
         tested : (t : Bool) → off_boundary ((def_at p row) n) (node p row n) now is_last ≡ t →
             Way (suc n) (goes_on (step_at p row (walk_to p row n) n).walk
-            (pick t (Refused (LabelOffBoundary n)) (State
+            (pick t (Err (LabelOffBoundary n)) (Ok
             (max s (state_of (node p row n) (label_state ((def_at p row) n) now (step_at p before (walk_to p before n) n).seen is_first))))))
         tested true f =
             let o = off-told is_last n now f in
@@ -119,14 +116,14 @@ module _ (p : Program) (row : Row) where
     way (suc n) = next_way n (pass_to p row before is_first is_last n) (way n)
 
     -- A pass is refused for what the first node meets that meets 5 or 7.
-    pub first-met : (why : Refusal) → pass_of p row before is_first is_last ≡ Refused why → (i : ℕ) × MeetsFirst is_last (length p.kinds) i why
+    pub first-met : (why : Refusal) → pass_of p row before is_first is_last ≡ Err why → (i : ℕ) × MeetsFirst is_last (length p.kinds) i why
     first-met why e =
         ⊎_elim (λ a. absurd (ended a.1 e))
         (λ b. (b.0, subst (MeetsFirst is_last (length p.kinds) b.0) (refused-for b.2 e) b.3))
         (way (length p.kinds))
 
     -- And where a node meets one first, the pass is refused for it.
-    pub met-first : (i : ℕ) (why : Refusal) → MeetsFirst is_last (length p.kinds) i why → pass_of p row before is_first is_last ≡ Refused why
+    pub met-first : (i : ℕ) (why : Refusal) → MeetsFirst is_last (length p.kinds) i why → pass_of p row before is_first is_last ≡ Err why
     met-first i why m =
         ⊎_elim (λ a. absurd (stops-not-goes is_last i m.here (a.2 i m.listed)))
         (λ b. refused-by b.2 (same-why b.0 b.1 b.3))
@@ -144,9 +141,9 @@ module _ (p : Program) (row : Row) where
             (or-past i j)
 
     -- A pass that comes to a state has gone past every node, and one that goes past every node comes to a state.
-    pub ran-to-end : (s : ℕ) → pass_of p row before is_first is_last ≡ State s → (i : ℕ) → i < length p.kinds → (GoesPast p row) is_last i
+    pub ran-to-end : (s : ℕ) → pass_of p row before is_first is_last ≡ Ok s → (i : ℕ) → i < length p.kinds → (GoesPast p row) is_last i
     ran-to-end s e = ⊎_elim (λ a. a.2) (λ b. absurd (not-ended b.2 e)) (way (length p.kinds))
 
-    pub runs-to-end : ((i : ℕ) → i < length p.kinds → (GoesPast p row) is_last i) → (s : ℕ) × (pass_of p row before is_first is_last ≡ State s)
+    pub runs-to-end : ((i : ℕ) → i < length p.kinds → (GoesPast p row) is_last i) → (s : ℕ) × (pass_of p row before is_first is_last ≡ Ok s)
     runs-to-end all =
         ⊎_elim (λ a. (a.0, rw a.1)) (λ b. absurd (stops-not-goes is_last b.0 b.3.here (all b.0 b.3.listed))) (way (length p.kinds))

@@ -1,5 +1,5 @@
 -- Theorems about what OneWalk defines: what a pass over a row comes to, whatever the pass before reads.
-use Rattle.std.specs.Prelude.{ℕ, ◌+◌, ◌/◌, ◌<◌, ◌≤◌, min, ◌≡◌, refl, Bool, true, false, not, ◌&&◌, eqb, leb, ltb, length}
+use Rattle.std.specs.Prelude.{ℕ, ◌+◌, ◌/◌, ◌<◌, ◌≤◌, min, ◌≡◌, refl, Bool, true, false, not, ◌&&◌, eqb, leb, ltb, length, Result, Ok, Err}
 use Rattle.std.proofs.Common.{sym, ap, ◌∙◌, ⊎_elim, arith, eqb-true, ltb-false, lt-ltb, eq-eqb}
 use Rattle.std.proofs.lemmas.Bool.{eqb-false}
 use Rattle.prelude.specs.Pick.{pick}
@@ -11,8 +11,6 @@ use Rattle.bankdef.specs.declared.Bankdefs.{Bankdefs}
 use Rattle.iter.specs.Address.{on_boundary}
 use Rattle.iter.specs.Step.{bank_after, bad_state}
 use Rattle.iter.specs.Theorems.StepFacts.{made-sound}
-use Rattle.iter.specs.declared.Moved.{Moved}
-use Rattle.iter.specs.declared.Moved.TheVariants.{To}
 use Rattle.nodes.specs.declared.Node.{Node}
 use Rattle.iter.specs.declared.Pos.{Pos}
 use Rattle.nodes.specs.Lists.{Lists, Row}
@@ -25,20 +23,18 @@ use Rattle.resolver.specs.Passes.{pass_at}
 use Rattle.resolver.specs.Theorems.NodeOrder.{first-met, met-first, ran-to-end, runs-to-end}
 use Rattle.resolver.specs.Theorems.Walked.{Largest, largest, state_at}
 use Rattle.resolver.specs.Walked.{state_seen}
-use Rattle.resolver.specs.declared.Pass.{Pass}
-use Rattle.resolver.specs.declared.Pass.TheVariants.{State, Refused}
 
 -- ---- one node, that sees a position
 
 module _ (n : Node) (def : Bankdef) (now : Pos) where
   -- a label's state where it is resolved
-  held : (before : Moved) (is_first : Bool) → n.kind ≡ 2 → state_of n (label_state def now before is_first) ≡ 0
+  held : (before : Result Pos Refusal) (is_first : Bool) → n.kind ≡ 2 → state_of n (label_state def now before is_first) ≡ 0
       → (now.known && on_boundary def now.position) ≡ true
   held before is_first k e =
       resolved-of (now.known && on_boundary def now.position) (not is_first && same_address def now before) (rw k at e)
 
   -- a node that is resolved is so beside any other row
-  zero_same : (before other : Moved) (is_first again : Bool) → state_of n (label_state def now before is_first) ≡ 0 → state_of n (label_state def now other again) ≡ 0
+  zero_same : (before other : Result Pos Refusal) (is_first again : Bool) → state_of n (label_state def now before is_first) ≡ 0 → state_of n (label_state def now other again) ≡ 0
   zero_same before other is_first again e =
       either (leb n.kind 1) (λ t. rw t)
       (λ t.
@@ -46,38 +42,38 @@ module _ (n : Node) (def : Bankdef) (now : Pos) where
       (λ u. let h : n.state ≡ 0 = rw (t, u) at e in rw (t, u) h))
 
   -- a label is never unresolved beside its own row, so an unresolved node has its row's state
-  two-same : (other : Moved) (again : Bool) → state_of n (label_state def now (To now) false) ≡ 2 → state_of n (label_state def now other again) ≡ 2
+  two-same : (other : Result Pos Refusal) (again : Bool) → state_of n (label_state def now (Ok now) false) ≡ 2 → state_of n (label_state def now other again) ≡ 2
   two-same other again e =
       either (leb n.kind 1) (λ t. absurd (let z : ◌≡◌ {A = ℕ} 0 2 = rw t at e in let b : ⊥ = omega arith in b))
       (λ t.
       either (eqb n.kind 2)
-      (λ u. absurd (own (now.known && on_boundary def now.position) (let z : label_state def now (To now) false ≡ 2 = rw (t, u) at e in z)))
+      (λ u. absurd (own (now.known && on_boundary def now.position) (let z : label_state def now (Ok now) false ≡ 2 = rw (t, u) at e in z)))
       (λ u. let h : n.state ≡ 2 = rw (t, u) at e in rw (t, u) h))
     where
-      own : (b : Bool) → ◌≡◌ {A = ℕ} (pick b 0 (pick (same_address def now (To now)) 1 2)) 2 → ⊥
+      own : (b : Bool) → ◌≡◌ {A = ℕ} (pick b 0 (pick (same_address def now (Ok now)) 1 2)) 2 → ⊥
       own true z = omega arith
       own false z = let h : ◌≡◌ {A = ℕ} 1 2 = rw (eq-eqb (now.position / def.unit) (now.position / def.unit) refl) at z in omega arith
 
 module _ (p : Program) (row : Row) where
   -- Refused, whatever the pass before reads: 5 and 7 come from the row's own walk.
-  pub refused-alike : (before other : Row) (is_first again is_last : Bool) {why : Refusal} → pass_of p row before is_first is_last ≡ Refused why
-      → pass_of p row other again is_last ≡ Refused why
+  pub refused-alike : (before other : Row) (is_first again is_last : Bool) {why : Refusal} → pass_of p row before is_first is_last ≡ Err why
+      → pass_of p row other again is_last ≡ Err why
   refused-alike before other is_first again is_last {why} e =
       let m = first-met p row before is_first is_last why e in met-first p row other again is_last m.0 why m.1
 
   -- what a node's state is, by what it sees
-  seen-state : (before : Row) (is_first is_last : Bool) (i : ℕ) {now : Pos} → seen_at p row i ≡ To now
+  seen-state : (before : Row) (is_first is_last : Bool) (i : ℕ) {now : Pos} → seen_at p row i ≡ Ok now
       → state_at p row before is_first is_last i ≡ state_of (node p row i) (label_state (def_at p row i) now (seen_at p before i) is_first)
   seen-state before is_first is_last i seen = ap (state_seen (def_at p row i) (node p row i) (seen_at p before i) is_first) seen
 
-  merged : (before : Row) (is_first is_last : Bool) {s : ℕ} → pass_of p row before is_first is_last ≡ State s
+  merged : (before : Row) (is_first is_last : Bool) {s : ℕ} → pass_of p row before is_first is_last ≡ Ok s
       → Largest p row before is_first is_last (length p.kinds) s
   merged before is_first is_last {s} e =
       let w = stood (pass_to p row before is_first is_last (length p.kinds)) e in
       largest p row before is_first is_last (length p.kinds) w.0 s w.1
 
   -- a state that a pass has read is 0, 1 or 2
-  read_small : (i : ℕ) {now : Pos} → seen_at p row i ≡ To now → 2 < (node p row i).kind → (node p row i).state ≤ 2
+  read_small : (i : ℕ) {now : Pos} → seen_at p row i ≡ Ok now → 2 < (node p row i).kind → (node p row i).state ≤ 2
   read_small i {now} seen k =
       let walk = walk_to p row i in
       let bank = bank_after walk.bank (node p row i) in
@@ -86,7 +82,7 @@ module _ (p : Program) (row : Row) where
       small_of : (n : Node) → bad_state n ≡ false → 2 < n.kind → n.state ≤ 2
       small_of n e h = let f : ltb 2 n.state ≡ false = rw (lt-ltb 2 n.kind h) at e in ltb-false 2 n.state f
 
-  small_at : (before : Row) (is_first is_last : Bool) (i : ℕ) {now : Pos} → seen_at p row i ≡ To now → state_at p row before is_first is_last i ≤ 2
+  small_at : (before : Row) (is_first is_last : Bool) (i : ℕ) {now : Pos} → seen_at p row i ≡ Ok now → state_at p row before is_first is_last i ≤ 2
   small_at before is_first is_last i {now} seen =
       rw (seen-state before is_first is_last i seen)
       (state-two (node p row i) (label_state (def_at p row i) now (seen_at p before i) is_first) (label-two (def_at p row i) now (seen_at p before i) is_first)
@@ -94,7 +90,7 @@ module _ (p : Program) (row : Row) where
 
   module _ (before : Row) (is_first is_last : Bool) (other : Row) (again last : Bool) where
     -- Resolved, whatever the pass before reads, and as the last pass too: each label is on a boundary.
-    pub resolved-alike : pass_of p row before is_first is_last ≡ State 0 → pass_of p row other again last ≡ State 0
+    pub resolved-alike : pass_of p row before is_first is_last ≡ Ok 0 → pass_of p row other again last ≡ Ok 0
     resolved-alike e =
         let all = merged before is_first is_last e in
         let past = ran-to-end p row before is_first is_last 0 e in
@@ -115,13 +111,13 @@ module _ (p : Program) (row : Row) where
         ∙ zero_same (node p row w.0) (def_at p row w.0) (past w.0 w.1).now (seen_at p before w.0) (seen_at p other w.0) is_first again
         (zero w.0 w.1))
         (merged other again last r.1).one in
-        r.1 ∙ ap State same
+        r.1 ∙ ap Ok same
       where
         none : {x : ℕ} → x ≤ 0 → x ≡ 0
         none h = omega arith
 
   -- Unresolved beside its own row, and so beside every other.
-  pub unresolved-alike : (other : Row) (again is_last : Bool) → pass_of p row row false is_last ≡ State 2 → pass_of p row other again is_last ≡ State 2
+  pub unresolved-alike : (other : Row) (again is_last : Bool) → pass_of p row row false is_last ≡ Ok 2 → pass_of p row other again is_last ≡ Ok 2
   unresolved-alike other again is_last e =
       let past = ran-to-end p row row false is_last 2 e in
       let r = runs-to-end p row other again is_last past in
@@ -130,8 +126,8 @@ module _ (p : Program) (row : Row) where
       ⊎_elim (λ (z : ◌≡◌ {A = ℕ} 2 0). absurd (let b : ⊥ = omega arith in b))
       (λ (w : (i : ℕ) × (i < length p.kinds) × (state_at p row row false is_last i ≡ 2)).
       let seen = (past w.0 w.1).seen in
-      let here : state_of (node p row w.0) (label_state (def_at p row w.0) (past w.0 w.1).now (To (past w.0 w.1).now) false) ≡ 2 =
-      ap (λ (m : Moved). state_of (node p row w.0) (label_state (def_at p row w.0) (past w.0 w.1).now m false)) (sym seen)
+      let here : state_of (node p row w.0) (label_state (def_at p row w.0) (past w.0 w.1).now (Ok (past w.0 w.1).now) false) ≡ 2 =
+      ap (λ (m : Result Pos Refusal). state_of (node p row w.0) (label_state (def_at p row w.0) (past w.0 w.1).now m false)) (sym seen)
       ∙ sym (seen-state row false is_last w.0 seen) ∙ w.2 in
       let there = seen-state other again is_last w.0 seen
       ∙ two-same (node p row w.0) (def_at p row w.0) (past w.0 w.1).now (seen_at p other w.0) again here in
@@ -143,15 +139,15 @@ module _ (p : Program) (row : Row) where
       (λ (w : (i : ℕ) × (i < length p.kinds) × (state_at p row other again is_last i ≡ r.0)).
       let h = small_at other again is_last w.0 (past w.0 w.1).seen in let f = w.2 in omega (arith, h, f))
       all.one in
-      r.1 ∙ ap State (let q : r.0 ≡ 2 = omega (arith, two, few) in q)
+      r.1 ∙ ap Ok (let q : r.0 ≡ 2 = omega (arith, two, few) in q)
 
   -- A pass that is held against its own row tells, unless it is in doubt, what the pass comes to beside every other.
-  pub told-alone : (other : Row) (is_last : Bool) (v : Pass) → v ≡ pass_of p row row false is_last → in_doubt v ≡ false → v ≡ pass_of p row other false is_last
-  told-alone other is_last (Refused why) e d = sym (refused-alike row other false false is_last (sym e))
-  told-alone other is_last (State s) e d =
+  pub told-alone : (other : Row) (is_last : Bool) (v : Result ℕ Refusal) → v ≡ pass_of p row row false is_last → in_doubt v ≡ false → v ≡ pass_of p row other false is_last
+  told-alone other is_last (Err why) e d = sym (refused-alike row other false false is_last (sym e))
+  told-alone other is_last (Ok s) e d =
       let pass = sym e in
       either (eqb s 0)
-      (λ t. let z = eqb-true s 0 t in ap State z ∙ sym (resolved-alike row false is_last other false is_last (pass ∙ ap State z)))
+      (λ t. let z = eqb-true s 0 t in ap Ok z ∙ sym (resolved-alike row false is_last other false is_last (pass ∙ ap Ok z)))
       (λ t.
       let past = ran-to-end p row row false is_last s pass in
       let n0 = eqb-false s 0 t in
@@ -162,10 +158,10 @@ module _ (p : Program) (row : Row) where
       let h = small_at row false is_last w.0 (past w.0 w.1).seen in let f = w.2 in omega (arith, h, f))
       (merged row false is_last pass).one in
       let z : s ≡ 2 = omega (arith, n0, n1, few) in
-      ap State z ∙ sym (unresolved-alike other false is_last (pass ∙ ap State z)))
+      ap Ok z ∙ sym (unresolved-alike other false is_last (pass ∙ ap Ok z)))
 
 -- A pass that read the last row and is resolved: the next one reads that row too, and is resolved as the last.
-pub resolved-again : (banks : Bankdefs) (l : Lists) (k : ℕ) → l.rows ≤ k → pass_at banks l k false ≡ State 0 → pass_at banks l (k + 1) true ≡ State 0
+pub resolved-again : (banks : Bankdefs) (l : Lists) (k : ℕ) → l.rows ≤ k → pass_at banks l k false ≡ Ok 0 → pass_at banks l (k + 1) true ≡ Ok 0
 resolved-again banks l k high e =
     let a : min k l.rows ≡ l.rows = omega arith in
     let b : min (k + 1) l.rows ≡ l.rows = omega arith in

@@ -1,11 +1,11 @@
 -- Theorems about what PassStates defines.
-use Rattle.std.specs.Prelude.{ℕ, ◌-◌, ◌<◌, ◌≤◌, min, ◌≡◌, Bool, true, false, ◌&&◌, ◌||◌, ◌⊎◌, ◌↔◌, eqb, ltb, length}
+use Rattle.std.specs.Prelude.{ℕ, ◌-◌, ◌<◌, ◌≤◌, min, ◌≡◌, Bool, true, false, ◌&&◌, ◌||◌, ◌⊎◌, ◌↔◌, eqb, ltb, length, Result, Ok, Err}
 use Rattle.std.proofs.Common.{◌∙◌, ⊎_elim, arith, lt-ltb, ltb-false}
-use Rattle.prelude.specs.declared.Verdict.TheVariants.{Accepted}
+use Rattle.iter.specs.declared.Pos.{Pos}
 use Rattle.prelude.specs.Laws.Bools.{neither}
+use Rattle.prelude.specs.Verdict.{Accepted}
+use Rattle.prelude.specs.declared.Refusal.{Refusal}
 use Rattle.bankdef.specs.declared.Bankdefs.{Bankdefs}
-use Rattle.iter.specs.declared.Moved.{Moved}
-use Rattle.iter.specs.declared.Moved.TheVariants.{To, Refused as Stopped}
 use Rattle.nodes.specs.Kinds.{is_item}
 use Rattle.nodes.specs.declared.Node.{Node}
 use Rattle.nodes.specs.Lists.{Lists, past_end, row_fault, lists_of}
@@ -14,7 +14,6 @@ use Rattle.resolver.specs.Passes.{program, row_of_pass, pass_at}
 use Rattle.nodes.specs.Theorems.Sound.{accepted-row, accepted-lists}
 use Rattle.resolver.specs.Walked.{state_seen}
 use Rattle.resolver.specs.Theorems.Walked.{Largest, largest}
-use Rattle.resolver.specs.declared.Pass.TheVariants.{State}
 use Rattle.resolver.specs.Laws.PassStates.{def_in, label-two, seen_in, state-two, state_in, stood}
 use Rattle.resolver.specs.PassStates.{node_in}
 
@@ -37,13 +36,13 @@ module _ (banks : Bankdefs) (l : Lists) (fill : ℕ) (sound : lists_of banks.len
   pub small : (i : ℕ) → i < length l.kinds → state_in banks l n i ≤ 2
   small i h = seen-two (seen_in banks l n i)
     where
-      seen-two : (m : Moved) → state_seen (def_in banks l n i) (node_in banks l n i) (seen_in banks l (n - 1) i) (eqb n 1) m ≤ 2
-      seen-two (To now) =
+      seen-two : (m : Result Pos Refusal) → state_seen (def_in banks l n i) (node_in banks l n i) (seen_in banks l (n - 1) i) (eqb n 1) m ≤ 2
+      seen-two (Ok now) =
           state-two (node_in banks l n i) (label_state (def_in banks l n i) now (seen_in banks l (n - 1) i) (eqb n 1))
           (label-two (def_in banks l n i) now (seen_in banks l (n - 1) i) (eqb n 1)) (sound-state-of-row i h)
-      seen-two (Stopped why) = omega arith
+      seen-two (Err why) = omega arith
 
-  module _ (is_last : Bool) (s : ℕ) (comes : pass_at banks l n is_last ≡ State s) where
+  module _ (is_last : Bool) (s : ℕ) (comes : pass_at banks l n is_last ≡ Ok s) where
     merged : Largest (program banks l) (row_of_pass l n) (row_of_pass l (n - 1)) (eqb n 1) is_last (length l.kinds) s
     merged =
         let p = program banks l in

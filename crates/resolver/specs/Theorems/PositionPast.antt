@@ -1,5 +1,5 @@
 -- Theorems about what PositionPast defines.
-use Rattle.std.specs.Prelude.{ℕ, zero, suc, ◌<◌, ◌≤◌, ◌≡◌, Bool, true, false, ◌&&◌, ◌↔◌, eqb, leb, get_or, length}
+use Rattle.std.specs.Prelude.{ℕ, zero, suc, ◌<◌, ◌≤◌, ◌≡◌, Bool, true, false, ◌&&◌, ◌↔◌, eqb, leb, get_or, length, Err}
 use Rattle.std.proofs.Common.{arith, eq-eqb, leb-false, eqb-true, le-ltb, leb-true}
 use Rattle.std.proofs.lemmas.Bool.{lt-leb}
 use Rattle.prelude.specs.Limits.{max_banks}
@@ -8,7 +8,6 @@ use Rattle.prelude.specs.Laws.Bools.{either, neither}
 use Rattle.bankdef.specs.Theorems.Refused.{accepted}
 use Rattle.bankdef.specs.declared.Bankdefs.{Bankdefs}
 use Rattle.iter.specs.Step.{bad_state, bank_after, malformed}
-use Rattle.iter.specs.declared.Moved.TheVariants.{Refused as Stopped}
 use Rattle.nodes.specs.Kinds.{is_unknown}
 use Rattle.nodes.specs.declared.Node.{Node}
 use Rattle.resolver.specs.Theorems.LabelStates.{switched_to, bank-by-switches}
@@ -64,7 +63,7 @@ module _ (banks : Bankdefs) (l : Lists) {fill : ℕ} (c : Checked banks l fill) 
             either (leb 3 x.kind) (λ e. rw e (le-ltb 2 x.state (s (leb-true 3 x.kind e)))) (λ e. rw e)
 
     -- In a pass, 5 is met at a node exactly when a position would pass the limit there.
-    pub five-met-exactly : (seen_at (program banks l) (row_of_pass l n) i ≡ Stopped (PositionPast i)) ↔
+    pub five-met-exactly : (seen_at (program banks l) (row_of_pass l n) i ≡ Err (PositionPast i)) ↔
         WouldPass (def_at (program banks l) (row_of_pass l n) i) (walk_to (program banks l) (row_of_pass l n) i) (node_in banks l n i)
     five-met-exactly = (
       step-five-only (def_at (program banks l) (row_of_pass l n) i) (walk_to (program banks l) (row_of_pass l n) i) (node_in banks l n i),

@@ -3,8 +3,7 @@ use Rattle.std.specs.Prelude.{ℕ, ◌<◌, ◌≤◌, ◌≡◌, false, ◌&&�
 use Rattle.std.proofs.Common.{sym, ◌∙◌, ⊎_elim, arith, leb-false, eq-eqb}
 use Rattle.std.proofs.Math.ListN.{get_or-eq_default}
 use Rattle.prelude.specs.Laws.Bools.{neither}
-use Rattle.prelude.specs.declared.Verdict.{Verdict}
-use Rattle.prelude.specs.declared.Verdict.TheVariants.{Accepted}
+use Rattle.prelude.specs.Verdict.{Accepted, Verdict}
 use Rattle.bankdef.specs.Check.{check_of}
 use Rattle.bankdef.specs.Theorems.Refused.{accepted}
 use Rattle.bankdef.specs.declared.Bankdefs.{Bankdefs}

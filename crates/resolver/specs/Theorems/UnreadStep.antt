@@ -1,16 +1,15 @@
 -- Theorems about what UnreadStep defines.
-use Rattle.std.specs.Prelude.{ℕ, ◌≤◌, ◌<◌, ◌≡◌, refl, eqb, leb, get_or}
+use Rattle.std.specs.Prelude.{ℕ, ◌≤◌, ◌<◌, ◌≡◌, refl, eqb, leb, get_or, Err, Result, Ok}
 use Rattle.std.proofs.Common.{sym, ◌∙◌, ap, ⊎_elim, eq-or-lt_of_le}
 use native.Mathlib.Omega.{arith}
 use borrow.Author.Tests.{eqb-true, leb-true}
 use Rattle.prelude.specs.declared.Refusal.TheVariants.{Malformed}
 use Rattle.prelude.specs.Laws.Bools.{either}
+use Rattle.prelude.specs.declared.Refusal.{Refusal}
 use Rattle.bankdef.specs.declared.Bankdef.{Bankdef}
 use Rattle.iter.specs.Theorems.Advance.{early, asserting, other}
 use Rattle.iter.specs.Step.{origin, outermost_symbol, seen_of, bad_state, moved_on, advanced_of, seen_skips, advance_skips}
 use Rattle.iter.specs.Step.{bank_after, step_skips, stepped_from, step_of}
-use Rattle.iter.specs.declared.Moved.{Moved}
-use Rattle.iter.specs.declared.Moved.TheVariants.{To, Refused as Stopped}
 use Rattle.nodes.specs.declared.Node.{Node}
 use Rattle.iter.specs.declared.Pos.{Pos}
 use Rattle.iter.specs.declared.Walk.{Walk}
@@ -56,7 +55,7 @@ module _ (n m : Node) (same : SameRead n m) where
       ⊎_elim (λ (high : m.kind ≤ 9). moved-read def at low high)
       (λ (past : 9 < m.kind).
       ⊎_elim (λ (e : 10 ≡ m.kind). asserting def at n (omega arith) ∙ sym (asserting def at m (omega arith)))
-      (λ (l : 10 < m.kind). other def at n (omega arith) ∙ (ap (λ (i : ℕ). Stopped (Malformed i)) same.index ∙ sym (other def at m l)))
+      (λ (l : 10 < m.kind). other def at n (omega arith) ∙ (ap (λ (i : ℕ). Err (Malformed i)) same.index ∙ sym (other def at m l)))
       (eq-or-lt_of_le past))
       (or-past m.kind 9))
       (λ (low : m.kind < 4). early def at n (omega arith) ∙ sym (early def at m low))
@@ -81,9 +80,9 @@ module _ (n m : Node) (same : SameRead n m) where
   skips-same : (def : Bankdef) (at p : Pos) → step_skips def at p n ≡ step_skips def at p m
   skips-same def at p = rw (seen-skips-same def at, advance-skips-same def p, same.kind)
 
-  from-same : (def : Bankdef) (walk : Walk) (bank : ℕ) (seen : Moved) → stepped_from def walk bank n seen ≡ stepped_from def walk bank m seen
-  from-same def walk bank (To p) = rw (skips-same def (get_or walk.at bank origin) p, advanced-same def p)
-  from-same def walk bank (Stopped why) = refl
+  from-same : (def : Bankdef) (walk : Walk) (bank : ℕ) (seen : Result Pos Refusal) → stepped_from def walk bank n seen ≡ stepped_from def walk bank m seen
+  from-same def walk bank (Ok p) = rw (skips-same def (get_or walk.at bank origin) p, advanced-same def p)
+  from-same def walk bank (Err why) = refl
 
   -- They make one step.
   pub step_same : (def : Bankdef) (walk : Walk) → step_of def walk n ≡ step_of def walk m

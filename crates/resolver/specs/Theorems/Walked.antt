@@ -1,26 +1,25 @@
 -- Theorems about what Walked defines.
 use Prim.Native.Nat.{ℕ, zero, suc, ◌<◌, ◌≤◌, max}
-use Rattle.std.specs.Prelude.{◌≡◌, Bool, ◌⊎◌}
+use Rattle.std.specs.Prelude.{◌≡◌, Bool, ◌⊎◌, Result, Ok, Err}
 use Rattle.std.proofs.Math.Path.{refl}
 use Rattle.std.proofs.Common.{sym, ◌∙◌, inl, inr, ⊎_elim, eq-or-lt_of_le, le_of_suc-le-suc, arith}
 use Rattle.prelude.specs.declared.Refusal.TheVariants.{LabelOffBoundary}
+use Rattle.prelude.specs.declared.Refusal.{Refusal}
 use Rattle.bankdef.specs.declared.Bankdef.{Bankdef}
-use Rattle.iter.specs.declared.Moved.{Moved}
-use Rattle.iter.specs.declared.Moved.TheVariants.{To, Refused as Stopped}
 use Rattle.nodes.specs.declared.Node.{Node}
 use Rattle.iter.specs.declared.Walk.{Walk}
+use Rattle.iter.specs.declared.Pos.{Pos}
 use Rattle.resolver.specs.Laws.Least.{or-past}
 use Rattle.nodes.specs.Lists.{Row}
 use Rattle.resolver.specs.Once.{Program, Going, on, off, node, bank_of, step_at, walk_to, label_state, state_of, off_boundary, met, meets, pass_to}
-use Rattle.resolver.specs.declared.Pass.TheVariants.{State}
 use Rattle.resolver.specs.Laws.Walked.{goes-walk, taken-state}
 use Rattle.resolver.specs.Walked.{state_seen}
 
-met-max : (def : Bankdef) (n : Node) (before : Moved) (is_first is_last : Bool) (merged : ℕ) (seen : Moved) {s : ℕ}
-    → met def n before is_first is_last merged seen ≡ State s → s ≡ max merged (state_seen def n before is_first seen)
-met-max def n before is_first is_last merged (To now) e =
+met-max : (def : Bankdef) (n : Node) (before : Result Pos Refusal) (is_first is_last : Bool) (merged : ℕ) (seen : Result Pos Refusal) {s : ℕ}
+    → met def n before is_first is_last merged seen ≡ Ok s → s ≡ max merged (state_seen def n before is_first seen)
+met-max def n before is_first is_last merged (Ok now) e =
     taken-state (off_boundary def n now is_last) (LabelOffBoundary n.index) (max merged (state_of n (label_state def now before is_first))) e
-met-max def n before is_first is_last merged (Stopped why) e = cc
+met-max def n before is_first is_last merged (Err why) e = cc
 
 module _ (p : Program) (row before : Row) (is_first is_last : Bool) where
   none-merged : (w : Walk) (s : ℕ) → pass_to p row before is_first is_last 0 ≡ on w s → s ≡ 0

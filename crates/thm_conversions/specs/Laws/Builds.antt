@@ -1,5 +1,5 @@
 -- Laws that Theorems/Builds rests on.
-use Rattle.std.specs.Prelude.{◌<◌, ◌≡◌, refl, ◌∷◌, get_or, replicate}
+use Rattle.std.specs.Prelude.{◌<◌, ◌≡◌, refl, ◌∷◌, get_or, replicate, Err, Ok, Result}
 use Rattle.std.proofs.Common.{sym, ap, subst, arith}
 use Rattle.prelude.specs.Told.{Told, told_number}
 use Rattle.prelude.specs.declared.Refusal.{Refusal}
@@ -9,9 +9,8 @@ use Rattle.prelude.specs.declared.Refusal.TheVariants.{NoOutput, Overlap, StoreF
 use Rattle.iter.specs.Step.{no_lost}
 use Rattle.output.specs.Output.{Input, Lent, Room, room_of, build_of, Builds}
 use Rattle.output.specs.Output.{Figures, told_build}
-use Rattle.output.specs.declared.Build.{Build}
-use Rattle.output.specs.declared.Build.TheVariants.{Done, Refused}
 use Rattle.output.specs.declared.Output.{Output}
+use Rattle.output.specs.declared.Built.{Built}
 use Rattle.build_paged.specs.InProfile.{leaves}
 use Rattle.build_paged.specs.Theorems.Nineteen.{ordinary-below-17}
 use Rattle.thm_conversions.specs.Widened.{raised, raised_build, raised_output}
@@ -21,7 +20,7 @@ use Rattle.thm_conversions.specs.Builds.{profile_build, profile_output}
 
 -- ---- the ordinary build, which gives no 19
 
-pub other-stays : (why : Refusal) → told_number (told_build (Refused why)) < 17 → rule_raised why ≡ why
+pub other-stays : (why : Refusal) → told_number (told_build (Err why)) < 17 → rule_raised why ≡ why
 other-stays BankCount h = refl
 other-stays (BankNumber bank) h = refl
 other-stays (BanksOverlap first second) h = refl
@@ -50,11 +49,11 @@ ordinary b room =
     let low = subst (λ (t : Told Figures). told_number t < 17) (sym (build-told b room)) (ordinary-below-17 b room) in
     with-build (build_of b room) (go (build_of b room).build low)
   where
-    go : (x : Build) → told_number (told_build x) < 17 → raised_build b x ≡ profile_build b x
-    go (Done k bits spans) h = refl
-    go (Refused why) h = ap (λ (y : Refusal). Refused (raised b y)) (sym (other-stays why h))
+    go : (x : Result Built Refusal) → told_number (told_build x) < 17 → raised_build b x ≡ profile_build b x
+    go (Ok ended) h = refl
+    go (Err why) h = ap (λ (y : Refusal). Err (raised b y)) (sym (other-stays why h))
 
-    with-build : (o : Output) {x y : Build} → x ≡ y
+    with-build : (o : Output) {x y : Result Built Refusal} → x ≡ y
         → ◌≡◌ {A = Output} (record { build = x; passes = o.passes; padding = no_lost ∷ get_or o.padding 0 no_lost ∷ replicate 14 no_lost })
         (record { build = y; passes = o.passes; padding = no_lost ∷ get_or o.padding 0 no_lost ∷ replicate 14 no_lost })
     with-build o e = rw e

@@ -1,7 +1,7 @@
 -- The checks before the passes: of the table, where 2 names bank 1 for a filled bank of size 0 alone, and of the lists, where a field of 4 stays and a
 -- node is one higher.
 use Prim.Native.Nat.{ℕ, zero, suc, ◌+◌, ◌*◌, ◌≤◌, ◌<◌}
-use Rattle.std.specs.Prelude.{◌≡◌, [], ◌∷◌, eqb, leb, ltb, get_or, length}
+use Rattle.std.specs.Prelude.{◌≡◌, [], ◌∷◌, eqb, leb, ltb, get_or, length, Err}
 use Rattle.std.proofs.Math.Path.{refl}
 use Rattle.std.proofs.Common.{sym, ap, ◌∙◌, arith, eqb-true, eq-eqb, leb-true, le-leb}
 use mathlib.Core.Bool.{Bool, true, false, not, ◌&&◌, ◌||◌}
@@ -9,8 +9,7 @@ use Rattle.prelude.specs.Laws.Bools.{either, both}
 use Rattle.prelude.specs.Limits.{max_nodes, max_rows}
 use Rattle.prelude.specs.Pick.{pick}
 use Rattle.prelude.specs.declared.Refusal.TheVariants.{BankNumber, Malformed}
-use Rattle.prelude.specs.declared.Verdict.{Verdict}
-use Rattle.prelude.specs.declared.Verdict.TheVariants.{Accepted, Refused}
+use Rattle.prelude.specs.Verdict.{Accepted, Verdict}
 use Rattle.bankdef.specs.Check.{check_banks, first_pair}
 use Rattle.bankdef.specs.Numbers.{start_sound, is_zero, fill_bit, bank_fault, zero_fault}
 use Rattle.bankdef.specs.Search.{first_where}
@@ -46,17 +45,17 @@ misplaced-fault d e = go (eqb d.unit 0) (not (start_sound d.start)) (ltb 1 (fill
     go false false u f = absurd (mathlib.Core.Bool.true≢false (sym f))
 
 -- one bank without a fill bit
-pub one-bank-check : (d : Bankdef) → fill_bit d ≡ 0 → check_banks (d ∷ []) ≡ pick (bank_fault d) (Refused (BankNumber 0)) Accepted
+pub one-bank-check : (d : Bankdef) → fill_bit d ≡ 0 → check_banks (d ∷ []) ≡ pick (bank_fault d) (Err (BankNumber 0)) Accepted
 unfolding first_where first_pair
 one-bank-check d e = go (zero_fault d) (bank_fault d) (ap (λ (k : ℕ). eqb k 1) e)
   where
     go : (z f : Bool) → z ≡ false
-        → pick (ltb (pick z 0 (pick f 0 1)) 1) (Refused (BankNumber (pick z 0 (pick f 0 1)))) Accepted ≡ pick f (Refused (BankNumber 0)) Accepted
+        → pick (ltb (pick z 0 (pick f 0 1)) 1) (Err (BankNumber (pick z 0 (pick f 0 1)))) Accepted ≡ pick f (Err (BankNumber 0)) Accepted
     go true f g = absurd (mathlib.Core.Bool.true≢false g)
     go false true g = refl
     go false false g = refl
 
-pub two-bank-check : (d : Bankdef) → check_banks (bare d ∷ d ∷ []) ≡ pick (bank_fault d) (Refused (BankNumber (pick (misplaced d) 0 1))) Accepted
+pub two-bank-check : (d : Bankdef) → check_banks (bare d ∷ d ∷ []) ≡ pick (bank_fault d) (Err (BankNumber (pick (misplaced d) 0 1))) Accepted
 unfolding first_where first_pair
 two-bank-check d =
     rw (bare-fault d)
@@ -68,7 +67,7 @@ two-bank-check d =
 
 abbrev pub shifted_verdict : Verdict → Verdict
 shifted_verdict Accepted = Accepted
-shifted_verdict (Refused why) = Refused (shifted why)
+shifted_verdict (Err why) = Err (shifted why)
 
 row-fault-alike : (bytes : ℕ) (n : Node) → row_fault bytes (up n) ≡ row_fault bytes n
 row-fault-alike bytes n = go n.kind n.operand n.number (ltb 2 n.state)
@@ -132,11 +131,11 @@ module _ (l : Lists) (c : Counted l) (switches : (i : ℕ) → get_or l.kinds i 
       where
         law : {v : Verdict} {t : Bool} → v ≡ shifted_verdict (nodes_to 1 l i) → t ≡ node_fault 1 l i → (u : Verdict) (s : Bool) → nodes_to 1 l i ≡ u
             → node_fault 1 l i ≡ s
-            → first_of v (pick t (Refused (Malformed (suc i))) Accepted)
-            ≡ shifted_verdict (first_of (nodes_to 1 l i) (pick (node_fault 1 l i) (Refused (Malformed i)) Accepted))
+            → first_of v (pick t (Err (Malformed (suc i))) Accepted)
+            ≡ shifted_verdict (first_of (nodes_to 1 l i) (pick (node_fault 1 l i) (Err (Malformed i)) Accepted))
         law e f Accepted true g h = rw (e, f, g, h)
         law e f Accepted false g h = rw (e, f, g, h)
-        law e f (Refused why) s g h = rw (e, g)
+        law e f (Err why) s g h = rw (e, g)
 
   pub some-row : row_count_sound l ≡ true → 1 ≤ l.rows
   some-row e =
@@ -167,16 +166,16 @@ module _ (l : Lists) (c : Counted l) (switches : (i : ℕ) → get_or l.kinds i 
     -- Counts at fault: 4 with the same field, 1 for the rows and 3 for the fill.
     module _ (fill : ℕ) (e : (row_count_sound l && known_fill fill) ≡ false) where
       field : (s t : Bool) → (s && t) ≡ false → (u : Verdict)
-          → pick s (pick t u (Refused (Malformed 3))) (Refused (Malformed 1)) ≡ Refused (Malformed (pick s 3 1))
+          → pick s (pick t u (Err (Malformed 3))) (Err (Malformed 1)) ≡ Err (Malformed (pick s 3 1))
       field true true f u = absurd (mathlib.Core.Bool.true≢false f)
       field true false f u = refl
       field false t f u = refl
 
-      pub field-here : lists_of 1 l fill ≡ Refused (Malformed (pick (row_count_sound l) 3 1))
+      pub field-here : lists_of 1 l fill ≡ Err (Malformed (pick (row_count_sound l) 3 1))
       unfolding lists_of
       field-here = rw count-here (field (row_count_sound l) (known_fill fill) e (nodes_to 1 l (length l.kinds)))
 
-      pub field-there : lists_of 2 m fill ≡ Refused (Malformed (pick (row_count_sound l) 3 1))
+      pub field-there : lists_of 2 m fill ≡ Err (Malformed (pick (row_count_sound l) 3 1))
       unfolding lists_of
       field-there = rw (count-there, row-count-alike) (field (row_count_sound l) (known_fill fill) e (nodes_to 2 m (length m.kinds)))
 

@@ -1,27 +1,25 @@
 -- Laws that Theorems/Conversions rests on.
-use Rattle.std.specs.Prelude.{Bool, true, false, ◌≡◌, refl, ℕ, ltb}
+use Rattle.std.specs.Prelude.{Bool, true, false, ◌≡◌, refl, ℕ, ltb, Err, Ok, Result}
 use Rattle.std.proofs.Common.{ltb-false}
 use Rattle.prelude.specs.Laws.Bools.{unlike}
 use Rattle.prelude.specs.Limits.{max_nodes, max_rows}
 use Rattle.prelude.specs.Pick.{pick}
 use Rattle.prelude.specs.declared.Refusal.{Refusal}
-use Rattle.form_convert.specs.declared.Conversion.{Conversion}
-use Rattle.form_convert.specs.declared.Conversion.TheVariants.{Converted, Refused}
 use Rattle.form_convert.specs.Convert.{answer_of}
 use Rattle.thm_conversions.specs.Conversions.{Allowed}
 
 -- refused is not converted
-pub never : (why : Refusal) (n : ℕ) → Refused why ≡ Converted n → ⊥
+pub never : (why : Refusal) (n : ℕ) → Err why ≡ Ok n → ⊥
 never why n e = unlike cc
 
-past : (t : Bool) (why : Refusal) (y : Conversion) (n : ℕ) → pick t (Refused why) y ≡ Converted n → (t ≡ false) × (y ≡ Converted n)
+past : (t : Bool) (why : Refusal) (y : Result ℕ Refusal) (n : ℕ) → pick t (Err why) y ≡ Ok n → (t ≡ false) × (y ≡ Ok n)
 past true why y n e = absurd (never why n e)
 past false why y n e = (refl, e)
 
-same_size : (a b : ℕ) → Converted a ≡ Converted b → a ≡ b
+same_size : (a b : ℕ) → ◌≡◌ {A = Result ℕ Refusal} (Ok a) (Ok b) → a ≡ b
 same_size a b e = cc
 
-pub allowed : (nodes rows first count size longest : ℕ) (drops : Bool) (room n : ℕ) → answer_of nodes rows first count size longest drops room ≡ Converted n
+pub allowed : (nodes rows first count size longest : ℕ) (drops : Bool) (room n : ℕ) → answer_of nodes rows first count size longest drops room ≡ Ok n
     → Allowed nodes rows first count size longest drops room n
 unfolding answer_of
 allowed nodes rows first count size longest drops room n e =

@@ -1,10 +1,9 @@
 -- Laws that Theorems/Same rests on.
-use Rattle.std.specs.Prelude.{ℕ, max, ◌≡◌, refl, [], ◌∷◌, eqb}
+use Rattle.std.specs.Prelude.{ℕ, max, ◌≡◌, refl, [], ◌∷◌, eqb, Err}
 use Rattle.std.proofs.Common.{ap, ◌∙◌, arith}
 use Rattle.prelude.specs.Pick.{pick}
 use Rattle.prelude.specs.declared.Refusal.{Refusal}
-use Rattle.prelude.specs.declared.Verdict.{Verdict}
-use Rattle.prelude.specs.declared.Verdict.TheVariants.{Accepted, Refused as Turned}
+use Rattle.prelude.specs.Verdict.{Verdict, Accepted}
 use Rattle.bankdef.specs.Check.{check_of}
 use Rattle.bankdef.specs.Fill.{fill_from, full_length, fill_by}
 use Rattle.bankdef.specs.declared.Bankdef.{Bankdef}
@@ -14,7 +13,6 @@ use Rattle.nodes.specs.Lists.{Lists, lists_of}
 use Rattle.resolver.specs.Passes.{program, row_of_pass, resolution_of}
 use Rattle.resolver.specs.declared.Choices.{Choices}
 use Rattle.resolver.specs.declared.Resolution.{Resolution}
-use Rattle.resolver.specs.declared.Settled.TheVariants.{Refused as Unsettled}
 use Rattle.output.specs.Output.{Input, Room, output_of, settled_build}
 use Rattle.output.specs.Output.{build_of}
 use Rattle.output.specs.declared.Output.{Output}
@@ -35,9 +33,9 @@ build-is b room = refl
 
 -- refused before any pass
 abbrev pub turned_away : Refusal → Resolution
-turned_away why = record { settled = Unsettled why; passes = 0 }
+turned_away why = record { settled = Err why; passes = 0 }
 
-pub refused-first : (banks : Bankdefs) (l : Lists) (choices : Choices) (why : Refusal) → check_of banks ≡ Turned why → layout_of banks l choices ≡ turned_away why
+pub refused-first : (banks : Bankdefs) (l : Lists) (choices : Choices) (why : Refusal) → check_of banks ≡ Err why → layout_of banks l choices ≡ turned_away why
 unfolding layout_of
 refused-first banks l choices why e =
     ap (λ (v : Verdict). unless v (unless (lists_of banks.len l choices.fill) (resolution_of banks l choices.limit))) e

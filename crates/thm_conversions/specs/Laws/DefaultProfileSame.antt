@@ -1,15 +1,14 @@
 -- Laws that Theorems/Same rests on.
-use Rattle.std.specs.Prelude.{ℕ, zero, suc, Bool, true, false, length}
+use Rattle.std.specs.Prelude.{ℕ, zero, suc, Bool, true, false, length, Err}
 use Rattle.prelude.specs.Pick.{pick}
 use Rattle.prelude.specs.declared.Refusal.TheVariants.{Malformed}
-use Rattle.prelude.specs.declared.Verdict.{Verdict}
-use Rattle.prelude.specs.declared.Verdict.TheVariants.{Accepted, Refused}
+use Rattle.prelude.specs.Verdict.{Verdict, Accepted}
 use Rattle.nodes.specs.Lists.{Lists, first_of, node_count_sound, row_count_sound, known_fill, node_fault, nodes_to, lists_of}
 
 -- The list check names 4 alone.
 pub data Four : Verdict → Type 0 where
   none : Four Accepted
-  at : (place : ℕ) → Four (Refused (Malformed place))
+  at : (place : ℕ) → Four (Err (Malformed place))
 
 picked : (t : Bool) {v w : Verdict} → Four v → Four w → Four (pick t v w)
 picked true p q = p

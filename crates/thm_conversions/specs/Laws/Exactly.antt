@@ -1,14 +1,15 @@
 -- Laws that Theorems/Exactly rests on.
-use Rattle.std.specs.Prelude.{ℕ, zero, suc, ◌<◌, Bool, true, false, List, [], ◌∷◌, ◌≡◌, refl, length, get_or}
+use Rattle.std.specs.Prelude.{ℕ, zero, suc, ◌<◌, Bool, true, false, List, [], ◌∷◌, ◌≡◌, refl, length, get_or, Result}
 use Rattle.std.proofs.Common.{sym, ap, arith, eq-eqb, eqb-true}
 use Rattle.prelude.specs.Laws.Bools.{either, both, clash, unlike}
 use Rattle.prelude.specs.Told.{Told, gives, refuses, told_number}
 use Rattle.prelude.specs.declared.Place.{Place}
 use Rattle.prelude.specs.declared.Place.TheVariants.{One}
-use Rattle.form_fields.specs.declared.Form.{Form}
+use Rattle.prelude.specs.declared.Refusal.{Refusal}
 use Rattle.form_fields.specs.declared.Kind.{Kind}
 use Rattle.form_fields.specs.Contents.{Contents, written}
 use Rattle.form_fields.specs.Told.{told_form}
+use Rattle.form_fields.specs.declared.Shape.{Shape}
 use Rattle.form_rewrite.specs.Turning.{all_of, bit_clear}
 use Rattle.form_convert.specs.Told as told
 use Rattle.form_convert.specs.Told.{ConvertTold}
@@ -30,7 +31,7 @@ not-14 e f = omega (arith, e, f)
 
 -- ---- from what is told to its cause
 
-module _ {k : Kind} {form : Form} {c d : Contents} {drops : Bool} {room : ℕ} (four : (n : ℕ) (p : Place) → told_form form ≡ refuses n p → n ≡ 4) where
+module _ {k : Kind} {form : Result Shape Refusal} {c d : Contents} {drops : Bool} {room : ℕ} (four : (n : ℕ) (p : Place) → told_form form ≡ refuses n p → n ≡ 4) where
   pub from-14 : {t : Told ℕ} {p : Place} → ConvertTold k form c d drops room t → t ≡ refuses 14 p
       → (p ≡ One 0) × Fair k form c d × (drops ≡ false) × (room < length (written k d))
   from-14 (told.broken e) q = absurd (not-14 (four _ _ e) (number q))

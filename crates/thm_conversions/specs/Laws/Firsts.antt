@@ -1,13 +1,12 @@
 -- The first that does not keep a rule, where each is one place later and the first place keeps it.
-use Rattle.std.specs.Prelude.{ℕ, zero, suc, ◌+◌, ◌<◌, ◌≡◌, refl, Bool, false, ◌||◌, eqb, leb}
+use Rattle.std.specs.Prelude.{ℕ, zero, suc, ◌+◌, ◌<◌, ◌≡◌, refl, Bool, false, ◌||◌, eqb, leb, Err}
 use Rattle.std.proofs.Math.Path.{ap}
 use Rattle.std.proofs.Common.{◌∙◌, arith}
 use Rattle.std.proofs.Math.Bool.{true, not}
 use Rattle.std.proofs.Math.Dec.{leb-suc-suc}
 use Rattle.prelude.specs.Pick.{pick}
 use Rattle.prelude.specs.declared.Refusal.TheVariants.{OffProfile}
-use Rattle.prelude.specs.declared.Verdict.{Verdict}
-use Rattle.prelude.specs.declared.Verdict.TheVariants.{Accepted, Refused}
+use Rattle.prelude.specs.Verdict.{Accepted, Verdict}
 use Rattle.nodes.specs.Lists.{first_of}
 use Rattle.resolver.specs.Passes.{first}
 use Rattle.build_profile.specs.Rules.{first_broken, all, ruled}
@@ -47,10 +46,10 @@ module _ (s t : ℕ → Bool) (zeroth : s 0 ≡ true) (later : (k : ℕ) → s (
   ruled-up rule n e = law (broken-up n) (leb-suc-suc n (first_broken t n)) ∙ go (all t n) (first_broken t n)
     where
       law : {x y : ℕ} {c : Bool} → x ≡ y → leb (suc n) y ≡ c
-          → pick (leb (suc n) x) Accepted (Refused (OffProfile rule x)) ≡ pick c Accepted (Refused (OffProfile rule y))
+          → pick (leb (suc n) x) Accepted (Err (OffProfile rule x)) ≡ pick c Accepted (Err (OffProfile rule y))
       law f g = rw (f, g)
 
-      go : (c : Bool) (x : ℕ) → pick c Accepted (Refused (OffProfile rule (suc x))) ≡ rule_verdict (pick c Accepted (Refused (OffProfile rule x)))
+      go : (c : Bool) (x : ℕ) → pick c Accepted (Err (OffProfile rule (suc x))) ≡ rule_verdict (pick c Accepted (Err (OffProfile rule x)))
       go true x = refl
       go false x = rw e
 
@@ -58,7 +57,7 @@ module _ (s t : ℕ → Bool) (zeroth : s 0 ≡ true) (later : (k : ℕ) → s (
 pub ruled-stays : (rule n : ℕ) (t : ℕ → Bool) → (eqb rule 1 || eqb rule 5) ≡ true → ruled rule t n ≡ rule_verdict (ruled rule t n)
 ruled-stays rule n t e = go (all t n) (first_broken t n)
   where
-    go : (c : Bool) (x : ℕ) → pick c Accepted (Refused (OffProfile rule x)) ≡ rule_verdict (pick c Accepted (Refused (OffProfile rule x)))
+    go : (c : Bool) (x : ℕ) → pick c Accepted (Err (OffProfile rule x)) ≡ rule_verdict (pick c Accepted (Err (OffProfile rule x)))
     go true x = refl
     go false x = rw e
 
@@ -68,15 +67,15 @@ unfolding first
 ruled-twice rule s t e f = go (t 0) e f
   where
     go : (c : Bool) {a d : Bool} → a ≡ c → d ≡ c
-        → pick (leb 2 (pick (not a) 0 (pick (not d) 1 2))) Accepted (Refused (OffProfile rule (pick (not a) 0 (pick (not d) 1 2))))
-        ≡ pick (leb 1 (pick (not c) 0 1)) Accepted (Refused (OffProfile rule (pick (not c) 0 1)))
+        → pick (leb 2 (pick (not a) 0 (pick (not d) 1 2))) Accepted (Err (OffProfile rule (pick (not a) 0 (pick (not d) 1 2))))
+        ≡ pick (leb 1 (pick (not c) 0 1)) Accepted (Err (OffProfile rule (pick (not c) 0 1)))
     go true g h = rw (g, h)
     go false g h = rw g
 
 -- the earliest of seven
 earlier-raised : {v w : Verdict} (x y : Verdict) → v ≡ rule_verdict x → w ≡ rule_verdict y → first_of v w ≡ rule_verdict (first_of x y)
 earlier-raised Accepted y e f = rw (e, f)
-earlier-raised (Refused why) y e f = rw e
+earlier-raised (Err why) y e f = rw e
 
 pub seven-raised : {v1 v2 v3 v4 v5 v6 v7 : Verdict} (x1 x2 x3 x4 x5 x6 x7 : Verdict) → v1 ≡ rule_verdict x1 → v2 ≡ rule_verdict x2 → v3 ≡ rule_verdict x3
     → v4 ≡ rule_verdict x4 → v5 ≡ rule_verdict x5 → v6 ≡ rule_verdict x6 → v7 ≡ rule_verdict x7

@@ -1,5 +1,5 @@
 -- Laws that Theorems/OneBank rests on.
-use Rattle.std.specs.Prelude.{Bool, true, false, not, ◌&&◌, ◌≡◌, ℕ, zero, suc, ◌+◌, ◌*◌, ◌≤◌, eqb, get_or, take, drop}
+use Rattle.std.specs.Prelude.{Bool, true, false, not, ◌&&◌, ◌≡◌, ℕ, zero, suc, ◌+◌, ◌*◌, ◌≤◌, eqb, get_or, take, drop, None, Option, Some}
 use mathlib.Core.List.{List, [], ◌∷◌, ◌++◌, map, append-nil}
 use Rattle.std.proofs.Math.Path.{refl, sym, ap₂}
 use Rattle.std.proofs.Common.{ap, subst, ◌∙◌, arith, eqb-true, eq-eqb, take-append-drop, length-take-le, take_at, drop_at, get_or-append-add, to_z}
@@ -9,8 +9,6 @@ use Rattle.std.specs.Int.{w64}
 use Rattle.prelude.specs.Laws.Bools.{both, clash}
 use Rattle.prelude.specs.Limits.{max_nodes}
 use Rattle.prelude.specs.Pick.{pick}
-use Rattle.prelude.specs.declared.Opt.{Opt}
-use Rattle.prelude.specs.declared.Opt.TheVariants.{None, Some}
 use Rattle.bankdef.specs.Search.{first_where}
 use Rattle.bankdef.specs.declared.Bankdef.{Bankdef}
 use Rattle.bankdef.specs.declared.Bankdefs.{Bankdefs}
@@ -240,7 +238,7 @@ module _ (b : List ℕ) (nodes rows : List (List ℕ)) (values : List ℕ) (limi
           (subst (λ (x : Input). BuiltIn None x old s new) (sym (same-input fill)) (subst (λ (l : Lent). BuiltIn None there old s l) same mine))
 
       -- with a page size or without
-      pub build-raised-in : (page : Opt) {old new : Lent} {r : Output} → FileBuilt (written form1 c) fill page old r new
+      pub build-raised-in : (page : Option ℕ) {old new : Lent} {r : Output} → FileBuilt (written form1 c) fill page old r new
           → FileBuilt (written form2 (widened c)) fill page old (raised_in page (input_for form1 c fill) r) new
       build-raised-in None p = build-raised p
       build-raised-in (Some page) {old} {new} {r} p =

@@ -1,58 +1,55 @@
 -- The passes of the two layouts come to the same, and so do K and the passes run; a refusal's node is one higher.
-use Rattle.std.specs.Prelude.{ℕ, ◌+◌, ◌-◌, ◌≤◌, min, ◌≡◌, refl, Bool, not, List, eqb, ltb, get_or}
+use Rattle.std.specs.Prelude.{ℕ, ◌+◌, ◌-◌, ◌≤◌, min, ◌≡◌, refl, Bool, not, List, eqb, ltb, get_or, Result, Ok, Err}
 use Rattle.std.proofs.Common.{ap, ◌∙◌, arith}
 use Rattle.std.proofs.Math.Path.{fun_ext}
 use Rattle.std.proofs.Math.Bool.{true, false}
 use Rattle.prelude.specs.Pick.{pick}
 use Rattle.prelude.specs.declared.Refusal.TheVariants.{Unresolved}
+use Rattle.prelude.specs.declared.Refusal.{Refusal}
 use Rattle.bankdef.specs.declared.Bankdefs.{Bankdefs}
 use Rattle.nodes.specs.Lists.{Lists, Row, row_at}
 use Rattle.resolver.specs.Once.{Program, bank_record, pass_of}
 use Rattle.resolver.specs.Passes.{program, row_of_pass, pass_at, unresolved, first, pass_k, last_of, after_k, settled_by, resolution_of}
-use Rattle.resolver.specs.declared.Pass.{Pass}
-use Rattle.resolver.specs.declared.Pass.TheVariants.{State, Refused as Failed}
 use Rattle.resolver.specs.declared.Resolution.{Resolution}
-use Rattle.resolver.specs.declared.Settled.{Settled}
-use Rattle.resolver.specs.declared.Settled.TheVariants.{At, Refused}
 use Rattle.thm_conversions.specs.Widened.{shifted, with_switch}
 use Rattle.thm_conversions.specs.Cells.{zeroed, Counted}
 use Rattle.thm_conversions.specs.Theorems.Cells.{row-zeroed, node-up}
 use Rattle.thm_conversions.specs.Laws.Walks.{leading, Leads, shifted_pass, pass-shifts}
 
-abbrev pub shifted_settled : Settled → Settled
-shifted_settled (At k) = At k
-shifted_settled (Refused why) = Refused (shifted why)
+abbrev pub shifted_settled : Result ℕ Refusal → Result ℕ Refusal
+shifted_settled (Ok k) = Ok k
+shifted_settled (Err why) = Err (shifted why)
 
 abbrev pub shifted_resolution : Resolution → Resolution
 shifted_resolution r = record { settled = shifted_settled r.settled; passes = r.passes }
 
 -- ---- over any passes
 
-module _ (pass : ℕ → Bool → Pass) where
-  abbrev later : ℕ → Bool → Pass
+module _ (pass : ℕ → Bool → Result ℕ Refusal) where
+  abbrev later : ℕ → Bool → Result ℕ Refusal
   later n is_last = shifted_pass (pass n is_last)
 
-  unresolved-alike : (q : Pass) → unresolved (shifted_pass q) ≡ unresolved q
-  unresolved-alike (State s) = refl
-  unresolved-alike (Failed why) = refl
+  unresolved-alike : (q : Result ℕ Refusal) → unresolved (shifted_pass q) ≡ unresolved q
+  unresolved-alike (Ok s) = refl
+  unresolved-alike (Err why) = refl
 
   k-alike : (m : ℕ) → pass_k later m ≡ pass_k pass m
   k-alike m = ap (λ (test : ℕ → Bool). first test 1 m) (fun_ext (λ n. ap not (unresolved-alike (pass n (eqb n m)))))
 
-  last-shifts : (k : ℕ) (q : Pass) → last_of k (shifted_pass q) ≡ shifted_settled (last_of k q)
-  last-shifts k (State s) = go (eqb s 2)
+  last-shifts : (k : ℕ) (q : Result ℕ Refusal) → last_of k (shifted_pass q) ≡ shifted_settled (last_of k q)
+  last-shifts k (Ok s) = go (eqb s 2)
     where
-      go : (t : Bool) → pick t (Refused Unresolved) (At k) ≡ shifted_settled (pick t (Refused Unresolved) (At k))
+      go : (t : Bool) → pick t (Err Unresolved) (Ok k) ≡ shifted_settled (pick t (Err Unresolved) (Ok k))
       go true = refl
       go false = refl
-  last-shifts k (Failed why) = refl
+  last-shifts k (Err why) = refl
 
-  ended : (n : ℕ) {x y : Settled} → x ≡ y → ◌≡◌ {A = Resolution} (record { settled = x; passes = n }) (record { settled = y; passes = n })
+  ended : (n : ℕ) {x y : Result ℕ Refusal} → x ≡ y → ◌≡◌ {A = Resolution} (record { settled = x; passes = n }) (record { settled = y; passes = n })
   ended n e = rw e
 
-  after-shifts : (k : ℕ) (q : Pass) → after_k later k (shifted_pass q) ≡ shifted_resolution (after_k pass k q)
-  after-shifts k (State s) = ended (k + 1) (last-shifts k (pass (k + 1) true))
-  after-shifts k (Failed why) = refl
+  after-shifts : (k : ℕ) (q : Result ℕ Refusal) → after_k later k (shifted_pass q) ≡ shifted_resolution (after_k pass k q)
+  after-shifts k (Ok s) = ended (k + 1) (last-shifts k (pass (k + 1) true))
+  after-shifts k (Err why) = refl
 
   pub settled-shifts : (m : ℕ) → settled_by later m ≡ shifted_resolution (settled_by pass m)
   unfolding settled_by
@@ -97,5 +94,5 @@ module _ (banks table : Bankdefs) (l : Lists) (c : Counted l) (some : 1 ≤ l.ro
   -- K, the passes run, and a refusal with its node one higher.
   pub resolution-shifts : (m : ℕ) → resolution_of table (with_switch l) m ≡ shifted_resolution (resolution_of banks l m)
   resolution-shifts m =
-      ap (λ (pass : ℕ → Bool → Pass). settled_by pass m) (fun_ext (λ n. fun_ext (λ is_last. passes-shift n is_last)))
+      ap (λ (pass : ℕ → Bool → Result ℕ Refusal). settled_by pass m) (fun_ext (λ n. fun_ext (λ is_last. passes-shift n is_last)))
       ∙ settled-shifts (pass_at banks l) m

@@ -1,20 +1,17 @@
 -- Laws that proofs about Steps need.
-use Rattle.std.specs.Prelude.{ℕ, suc, ◌+◌, ◌≡◌, Bool, true, false, ◌&&◌, ◌||◌, ◌∷◌, eqb, leb, replicate}
+use Rattle.std.specs.Prelude.{ℕ, suc, ◌+◌, ◌≡◌, Bool, true, false, ◌&&◌, ◌||◌, ◌∷◌, eqb, leb, replicate, Result, Ok, Err, Option, None, Some}
 use Rattle.std.proofs.Math.Path.{refl, ap}
 use Rattle.std.proofs.Common.{◌∙◌, eqb-true}
 use Rattle.prelude.specs.Laws.Bools.{either}
 use Rattle.prelude.specs.Limits.{max_position}
 use Rattle.prelude.specs.Pick.{pick}
-use Rattle.prelude.specs.declared.Opt.{Opt}
-use Rattle.prelude.specs.declared.Opt.TheVariants.{None, Some}
 use Rattle.prelude.specs.declared.Refusal.TheVariants.{Malformed}
+use Rattle.prelude.specs.declared.Refusal.{Refusal}
 use Rattle.bankdef.specs.declared.Bankdef.{Bankdef}
 use Rattle.iter.specs.Distance.{tellable, address_in_bits, distance_to, distance_of, no_skip}
 use Rattle.iter.specs.Step.{origin, no_lost, moved_by, aligned_to, outermost_symbol, label_aligned, label_skips, seen_of, bad_state, moved_on, advanced_of}
 use Rattle.iter.specs.Step.{skips_by, when_made, seen_skips, advance_skips, lost_after, bank_after, stopped, stepped_to, step_skips, stepped_from, step_of}
 use Rattle.iter.specs.declared.Lost.{Lost}
-use Rattle.iter.specs.declared.Moved.{Moved}
-use Rattle.iter.specs.declared.Moved.TheVariants.{To, Refused as Stopped}
 use Rattle.nodes.specs.declared.Node.{Node}
 use Rattle.nodes.specs.declared.kinds.Doing.{Doing}
 use Rattle.nodes.specs.declared.kinds.Doing.TheVariants.{Stays, Switches, Symbol, Adds, Aligns, Sets, Unknown}
@@ -26,9 +23,9 @@ use Rattle.iter.specs.declared.Walk.{Walk}
 use Rattle.thm_conversions.specs.Widened.{shifted}
 use Rattle.thm_conversions.specs.Steps.{up}
 
-abbrev pub shifted_moved : Moved → Moved
-shifted_moved (To p) = To p
-shifted_moved (Stopped why) = Stopped (shifted why)
+abbrev pub shifted_moved : Result Pos Refusal → Result Pos Refusal
+shifted_moved (Ok p) = Ok p
+shifted_moved (Err why) = Err (shifted why)
 
 -- a walk that has stood in bank 0 alone, and one that has stood in bank 1 alone
 abbrev pub in_first : Pos → Lost → Walk
@@ -47,14 +44,14 @@ pub record Alike (s t : Stepped) : Type 0 where
 
 -- ---- moves
 
-record Shift (x u : Moved) : Type 0 where
+record Shift (x u : Result Pos Refusal) : Type 0 where
   is : u ≡ shifted_moved x
 
-pick-shifts : (t : Bool) {x y u v : Moved} → Shift x u → Shift y v → Shift (pick t x y) (pick t u v)
+pick-shifts : (t : Bool) {x y u v : Result Pos Refusal} → Shift x u → Shift y v → Shift (pick t x y) (pick t u v)
 pick-shifts true e f = e
 pick-shifts false e f = f
 
-doing-shifts : (d : Doing) {a b c s u a' b' c' s' u' : Moved} → Shift a a' → Shift b b' → Shift c c' → Shift s s' → Shift u u'
+doing-shifts : (d : Doing) {a b c s u a' b' c' s' u' : Result Pos Refusal} → Shift a a' → Shift b b' → Shift c c' → Shift s s' → Shift u u'
     → Shift (by_doing d a b c s u) (by_doing d a' b' c' s' u')
 doing-shifts Stays a b c s u = a
 doing-shifts Switches a b c s u = a
@@ -78,9 +75,9 @@ skips-alike : (def : Bankdef) (position a i : ℕ) → skips_by (distance_of def
 unfolding distance_of
 skips-alike def position a i = either (tellable def) (λ t. rw t) (λ t. rw t)
 
-made_alike : (m : Moved) {s t : Skipped} → s ≡ t → when_made (shifted_moved m) s ≡ when_made m t
-made_alike (To p) e = e
-made_alike (Stopped why) e = refl
+made_alike : (m : Result Pos Refusal) {s t : Skipped} → s ≡ t → when_made (shifted_moved m) s ≡ when_made m t
+made_alike (Ok p) e = e
+made_alike (Err why) e = refl
 
 module _ (n : Node) where
   pub symbol-alike : outermost_symbol (up n) ≡ outermost_symbol n
@@ -89,14 +86,14 @@ module _ (n : Node) where
       go : (k o : ℕ) → ((eqb k 2 || eqb k 3) && eqb (pick (eqb k 1) 1 o) 0) ≡ ((eqb k 2 || eqb k 3) && eqb o 0)
       go k o = either (eqb k 1) (λ e. rw (eqb-true k 1 e)) (λ e. rw e)
 
-  label-shifts : (def : Bankdef) (o : Opt) (at : Pos) → Shift (label_aligned def o at n.index) (label_aligned def o at (suc n.index))
+  label-shifts : (def : Bankdef) (o : Option ℕ) (at : Pos) → Shift (label_aligned def o at n.index) (label_aligned def o at (suc n.index))
   label-shifts def None at = record { is = refl }
   label-shifts def (Some a) at = aligned-shifts def at a at.known n.index
 
   pub seen-shifts : (def : Bankdef) (at : Pos) → seen_of def at (up n) ≡ shifted_moved (seen_of def at n)
   unfolding seen_of
   seen-shifts def at =
-      ap (λ (t : Bool). pick t (label_aligned def def.align at (suc n.index)) (To at)) symbol-alike
+      ap (λ (t : Bool). pick t (label_aligned def def.align at (suc n.index)) (Ok at)) symbol-alike
       ∙ (pick-shifts (outermost_symbol n) (label-shifts def def.align at) (record { is = refl })).is
 
   on-shifts : (def : Bankdef) (at : Pos) → Shift (moved_on def at n) (moved_on def at (up n))
@@ -109,7 +106,7 @@ module _ (n : Node) where
   unfolding advanced_of
   advanced-shifts def at = (pick-shifts (bad_state n) (record { is = refl }) (on-shifts def at)).is
 
-  label-skips : (def : Bankdef) (o : Opt) (at : Pos) → label_skips def o at (suc n.index) ≡ label_skips def o at n.index
+  label-skips : (def : Bankdef) (o : Option ℕ) (at : Pos) → label_skips def o at (suc n.index) ≡ label_skips def o at n.index
   label-skips def None at = refl
   label-skips def (Some a) at = skips-alike def at.position a n.index
 
@@ -119,14 +116,14 @@ module _ (n : Node) where
   seen-skips : (def : Bankdef) (at : Pos) → seen_skips def at (up n) ≡ seen_skips def at n
   unfolding seen_skips
   seen-skips def at =
-      ap (λ (m : Moved). when_made m (pick (outermost_symbol (up n)) (label_skips def def.align at (suc n.index)) no_skip)) (seen-shifts def at)
+      ap (λ (m : Result Pos Refusal). when_made m (pick (outermost_symbol (up n)) (label_skips def def.align at (suc n.index)) no_skip)) (seen-shifts def at)
       ∙ made_alike (seen_of def at n) (same-pick (outermost_symbol (up n)) (outermost_symbol n) symbol-alike (label-skips def def.align at))
 
   advance-skips : (def : Bankdef) (at : Pos) → advance_skips def at (up n) ≡ advance_skips def at n
   unfolding advance_skips
   advance-skips def at =
       ap
-      (λ (m : Moved). when_made m (pick (eqb n.kind 8) (skips_by (distance_of def at.position n.number (suc n.index))) no_skip))
+      (λ (m : Result Pos Refusal). when_made m (pick (eqb n.kind 8) (skips_by (distance_of def at.position n.number (suc n.index))) no_skip))
       (advanced-shifts def at)
       ∙ made_alike (advanced_of def at n)
       (same-pick (eqb n.kind 8) (eqb n.kind 8) refl (skips-alike def at.position n.number n.index))
@@ -148,15 +145,15 @@ module _ (n : Node) where
     stays-second = either (eqb n.kind 1) (λ e. rw e) (λ e. rw e)
 
     module _ (def : Bankdef) (at : Pos) (lost : Lost) where
-      moves : (p : Pos) (s : Skipped) (m : Moved) → Alike (stepped_to (in_first at lost) 0 p s m) (stepped_to (in_second at lost) 1 p s (shifted_moved m))
-      moves p s (To q) = record { at = q; lost = lost_after lost s; first = refl; second = refl; seen = refl }
-      moves p s (Stopped why) = record { at = at; lost = lost; first = refl; second = refl; seen = refl }
+      moves : (p : Pos) (s : Skipped) (m : Result Pos Refusal) → Alike (stepped_to (in_first at lost) 0 p s m) (stepped_to (in_second at lost) 1 p s (shifted_moved m))
+      moves p s (Ok q) = record { at = q; lost = lost_after lost s; first = refl; second = refl; seen = refl }
+      moves p s (Err why) = record { at = at; lost = lost; first = refl; second = refl; seen = refl }
 
-      sees : (m : Moved) → Alike (stepped_from def (in_first at lost) 0 n m) (stepped_from def (in_second at lost) 1 (up n) (shifted_moved m))
-      sees (To p) = rw (skips def at p, advanced-shifts def p) (moves p (step_skips def at p n) (advanced_of def p n))
-      sees (Stopped why) = record { at = at; lost = lost; first = refl; second = refl; seen = refl }
+      sees : (m : Result Pos Refusal) → Alike (stepped_from def (in_first at lost) 0 n m) (stepped_from def (in_second at lost) 1 (up n) (shifted_moved m))
+      sees (Ok p) = rw (skips def at p, advanced-shifts def p) (moves p (step_skips def at p n) (advanced_of def p n))
+      sees (Err why) = record { at = at; lost = lost; first = refl; second = refl; seen = refl }
 
-      tested : (t : Bool) (m : Moved)
+      tested : (t : Bool) (m : Result Pos Refusal)
           → Alike (pick t (stopped (in_first at lost) (Malformed n.index)) (stepped_from def (in_first at lost) 0 n m))
           (pick t (stopped (in_second at lost) (Malformed (suc n.index))) (stepped_from def (in_second at lost) 1 (up n) (shifted_moved m)))
       tested true m = record { at = at; lost = lost; first = refl; second = refl; seen = refl }

@@ -1,19 +1,18 @@
 -- Laws that Theorems/ThereAndBack rests on.
-use Rattle.std.specs.Prelude.{Bool, true, false, not, ◌&&◌, List, [], ◌∷◌, ◌++◌, map, ◌≡◌, refl, ℕ, suc, ◌+◌, ◌≤◌, max, eqb, length, get_or, take, drop}
+use Rattle.std.specs.Prelude.{Bool, true, false, not, ◌&&◌, List, [], ◌∷◌, ◌++◌, map, ◌≡◌, refl, ℕ, suc, ◌+◌, ◌≤◌, max, eqb, length, get_or, take, drop, Ok, Result}
 use Rattle.std.proofs.Common.{sym, ap, ap₂, ◌∙◌, arith, le-ltb, eqb-true, eq-eqb, length-take-le, get_or-append-add}
 use Rattle.std.proofs.lemmas.List.{length-map, get_or_at}
 use Rattle.prelude.specs.Limits.{max_nodes, max_rows}
 use Rattle.prelude.specs.Pick.{pick}
+use Rattle.prelude.specs.declared.Refusal.{Refusal}
 use Rattle.bankdef.specs.Search.{first_where}
-use Rattle.form_fields.specs.declared.Form.{Form}
 use Rattle.form_fields.specs.declared.Kind.{Kind}
 use Rattle.form_fields.specs.Kind.{Known, form1}
 use Rattle.form_fields.specs.Contents.{Contents, written, Each, BankFits, Fits}
 use Rattle.form_fields.proofs.RoundTripLaws.{written-sound}
 use Rattle.form_fields.specs.Whole.{contents_in}
 use Rattle.form_fields.proofs.Whole.{contents-back}
-use Rattle.form_convert.specs.declared.Conversion.{Conversion}
-use Rattle.form_convert.specs.declared.Conversion.TheVariants.{Converted}
+use Rattle.form_fields.specs.declared.Shape.{Shape}
 use Rattle.form_rewrite.specs.Turning.{zeros, lengthened, widened, alone, shaped, shortened, narrowed, all_of, bit_clear, drops_bit}
 use Rattle.form_rewrite.specs.Turning.{to_form2, to_form1}
 use Rattle.form_convert.specs.Convert.{stray, answer_of, answer_for, answer_by, out_after, Converts}
@@ -22,7 +21,7 @@ use Rattle.thm_conversions.specs.Laws.Shaped.{none-stray}
 -- ---- when a call is not refused
 
 converts-when : (nodes rows first count size longest : ℕ) (drops : Bool) (room : ℕ) → nodes ≤ max_nodes → rows ≤ max_rows → count ≤ first → size ≤ longest
-    → drops ≡ false → size ≤ room → answer_of nodes rows first count size longest drops room ≡ Converted size
+    → drops ≡ false → size ≤ room → answer_of nodes rows first count size longest drops room ≡ Ok size
 unfolding answer_of
 converts-when nodes rows first count size longest drops room a b c d e f =
     rw (le-ltb max_nodes nodes a, le-ltb max_rows rows b, le-ltb first count c, le-ltb longest size d, e, le-ltb room size f) refl
@@ -39,19 +38,19 @@ pub record Fine (to : Kind) (d c : Contents) (drops : Bool) (room : ℕ) : Type 
 module _ {from to : Kind} (known : Known from) (turn : Contents → Contents) (drops : Contents → Bool) (d c : Contents) (fits : Fits from d)
     (short : length (written from d) ≤ from.longest) (becomes : turn d ≡ c) where
   -- a call on the file of contents that fit answers of them and of c, which they become
-  pub call-said : (old new : List ℕ) (answer : Conversion) → Converts from to turn drops (written from d) old answer new
+  pub call-said : (old new : List ℕ) (answer : Result ℕ Refusal) → Converts from to turn drops (written from d) old answer new
       → answer ≡ answer_for to d c (drops d) (length old)
   call-said old new answer p =
       let file = written from d in
       p.is
-      ∙ ap (λ (f : Form). answer_by to f (contents_in from file) (turn (contents_in from file)) (drops (contents_in from file)) (length old))
+      ∙ ap (λ (f : Result Shape Refusal). answer_by to f (contents_in from file) (turn (contents_in from file)) (drops (contents_in from file)) (length old))
       (written-sound known d fits short)
       ∙ ap (λ (x : Contents). answer_for to x (turn x) (drops x) (length old)) (contents-back known d fits)
       ∙ ap (λ (x : Contents). answer_for to d x (drops d) (length old)) becomes
 
   -- and where nothing is against it, it answers the length of c's file and writes that
-  pub second_call : (old new : List ℕ) (answer : Conversion) → Fine to d c (drops d) (length old) → Converts from to turn drops (written from d) old answer new
-      → (answer ≡ Converted (length (written to c))) × (new ≡ written to c ++ drop (length (written to c)) old)
+  pub second_call : (old new : List ℕ) (answer : Result ℕ Refusal) → Fine to d c (drops d) (length old) → Converts from to turn drops (written from d) old answer new
+      → (answer ≡ Ok (length (written to c))) × (new ≡ written to c ++ drop (length (written to c)) old)
   second_call old new answer ok p =
       let file = written from d in
       let done = call-said old new answer p
@@ -59,7 +58,7 @@ module _ {from to : Kind} (known : Known from) (turn : Contents → Contents) (d
       (drops d) (length old) ok.few ok.few-rows ok.none ok.short ok.kept ok.fits in (
         done,
         p.out
-            ∙ ap (λ (a : Conversion). out_after a (written to (turn (contents_in from file))) old) done
+            ∙ ap (λ (a : Result ℕ Refusal). out_after a (written to (turn (contents_in from file))) old) done
             ∙ ap (λ (x : Contents). written to x ++ drop (length (written to x)) old) (ap turn (contents-back known d fits) ∙ becomes),
       )
 

@@ -1,22 +1,18 @@
 -- What the build sees of the two rows: behind the switch each visit is the other's, one number higher and in bank 1. So the items and the spans are the
 -- same, and what is placed goes alike.
-use Rattle.std.specs.Prelude.{ℕ, zero, suc, ◌+◌, ◌≡◌, Bool, true, false, ◌&&◌, List, [], ◌∷◌, ◌++◌, eqb, ℤ, length}
+use Rattle.std.specs.Prelude.{ℕ, zero, suc, ◌+◌, ◌≡◌, Bool, true, false, ◌&&◌, List, [], ◌∷◌, ◌++◌, eqb, ℤ, length, Result, Ok, Err, Option, None, Some}
 use Rattle.std.proofs.Math.Path.{refl}
 use Rattle.std.proofs.Common.{sym, ap, ◌∙◌, eqb-true}
 use Rattle.prelude.specs.Laws.Bools.{either}
 use Rattle.prelude.specs.Pick.{pick}
-use Rattle.prelude.specs.declared.Offset.{Offset}
-use Rattle.prelude.specs.declared.Offset.TheVariants.{None as Nowhere, At as Out}
 use Rattle.prelude.specs.declared.Refusal.TheVariants.{PastBank, NoOutput, Overlap, StoreFull}
-use Rattle.prelude.specs.declared.Verdict.{Verdict}
-use Rattle.prelude.specs.declared.Verdict.TheVariants.{Accepted, Refused}
+use Rattle.prelude.specs.declared.Refusal.{Refusal}
+use Rattle.prelude.specs.Verdict.{Verdict, Accepted}
 use Rattle.bankdef.specs.declared.Bankdef.{Bankdef}
 use Rattle.bankdef.specs.declared.Bankdefs.{Bankdefs}
 use Rattle.iter.specs.Address.{address_of, output_position}
 use Rattle.iter.specs.Distance.{tellable}
 use Rattle.iter.specs.Step.{start_of, seen_of, moved_on, advanced_of, seen_skips, advance_skips, bank_after, step_of}
-use Rattle.iter.specs.declared.Moved.{Moved}
-use Rattle.iter.specs.declared.Moved.TheVariants.{To, Refused as Stopped}
 use Rattle.nodes.specs.Kinds.{size_of}
 use Rattle.nodes.specs.declared.Node.{Node}
 use Rattle.iter.specs.declared.Pos.{Pos}
@@ -52,43 +48,43 @@ pub record Like (v u : Visit) : Type 0 where
   pub seen : u.seen ≡ shifted_moved v.seen
   pub out : u.out ≡ v.out
 
-pos-alike : (m : Moved) → seen_pos (shifted_moved m) ≡ seen_pos m
-pos-alike (To at) = refl
-pos-alike (Stopped why) = refl
+pos-alike : (m : Result Pos Refusal) → seen_pos (shifted_moved m) ≡ seen_pos m
+pos-alike (Ok at) = refl
+pos-alike (Err why) = refl
 
 -- ---- what a visit gives
 
 -- a node's operand is the same where it is no switch
-standing-alike : (n : Node) (out : Offset) (t : Bool) → (eqb n.kind 1 ≡ true → t ≡ false) → pick t (standing out (up n)) [] ≡ pick t (standing out n) []
-standing-alike n Nowhere t other = refl
-standing-alike n (Out o) t other = either (eqb n.kind 1) (λ e. rw (other e)) (λ e. rw e)
+standing-alike : (n : Node) (out : Option ℕ) (t : Bool) → (eqb n.kind 1 ≡ true → t ≡ false) → pick t (standing out (up n)) [] ≡ pick t (standing out n) []
+standing-alike n None t other = refl
+standing-alike n (Some o) t other = either (eqb n.kind 1) (λ e. rw (other e)) (λ e. rw e)
 
 not_written : (n : Node) → eqb n.kind 1 ≡ true → is_written n ≡ false
 not_written n e = rw (eqb-true n.kind 1 e)
 
-bits-alike : (n : Node) (out : Offset) → bits_at out (up n) ≡ bits_at out n
-bits-alike n Nowhere = refl
-bits-alike n (Out o) = refl
+bits-alike : (n : Node) (out : Option ℕ) → bits_at out (up n) ≡ bits_at out n
+bits-alike n None = refl
+bits-alike n (Some o) = refl
 
 told-alike : (def : Bankdef) (position i : ℕ) → address_told (address_of def position (suc i)) ≡ address_told (address_of def position i)
 unfolding address_of
 told-alike def position i = either (tellable def) (λ t. rw t) (λ t. rw t)
 
-abbrev span_with : Node → ℤ → Offset → List Span
+abbrev span_with : Node → ℤ → Option ℕ → List Span
 span_with n address out = pick (is_span n) (record { address = address; offset = out; size = size_of n } ∷ []) []
 
 module _ {v u : Visit} (like : Like v u) where
   pub item-alike : item_of u ≡ item_of v
   item-alike = law like.node like.out (standing-alike v.node v.out (is_written v.node) (not_written v.node))
     where
-      law : {n : Node} {o : Offset} → n ≡ up v.node → o ≡ v.out → item_at (up v.node) v.out ≡ item_at v.node v.out
+      law : {n : Node} {o : Option ℕ} → n ≡ up v.node → o ≡ v.out → item_at (up v.node) v.out ≡ item_at v.node v.out
           → item_at n o ≡ item_at v.node v.out
       law e f x = rw (e, f) x
 
   pub offer-alike : offer_of u ≡ offer_of v
   offer-alike = law like.node like.out (ap (λ (l : List Entry). pick (is_offered v.node) l []) (bits-alike v.node v.out))
     where
-      law : {n : Node} {o : Offset} → n ≡ up v.node → o ≡ v.out → offer_at (up v.node) v.out ≡ offer_at v.node v.out
+      law : {n : Node} {o : Option ℕ} → n ≡ up v.node → o ≡ v.out → offer_at (up v.node) v.out ≡ offer_at v.node v.out
           → offer_at n o ≡ offer_at v.node v.out
       law e f x = rw (e, f) x
 
@@ -103,7 +99,7 @@ module _ {v u : Visit} (like : Like v u) where
   pub span-alike : span_of u ≡ span_of v
   span-alike = law like.node address-alike like.out
     where
-      law : {n : Node} {a b : ℤ} {o : Offset} → n ≡ up v.node → a ≡ b → o ≡ v.out → span_with n a o ≡ span_with v.node b v.out
+      law : {n : Node} {a b : ℤ} {o : Option ℕ} → n ≡ up v.node → a ≡ b → o ≡ v.out → span_with n a o ≡ span_with v.node b v.out
       law e f g = rw (e, f, g)
 
 -- ---- what is placed
@@ -114,15 +110,15 @@ pick-verdict false x y = refl
 
 first-shifts : (x y : Verdict) → first_of (shifted_verdict x) (shifted_verdict y) ≡ shifted_verdict (first_of x y)
 first-shifts Accepted y = refl
-first-shifts (Refused why) y = refl
+first-shifts (Err why) y = refl
 
 answer-shifts : (s : State) (e : Entry) (i : ℕ) → answer s e (suc i) ≡ shifted_verdict (answer s e i)
 unfolding tries
 answer-shifts s e i = go (meets s e) (lacks_room (length s.intervals) (length s.marks) e.size)
   where
     go : (a b : Bool)
-        → pick a (Refused (Overlap (named_in s e).position (named_in s e).size)) (pick b (Refused (StoreFull (suc i))) Accepted)
-        ≡ shifted_verdict (pick a (Refused (Overlap (named_in s e).position (named_in s e).size)) (pick b (Refused (StoreFull i)) Accepted))
+        → pick a (Err (Overlap (named_in s e).position (named_in s e).size)) (pick b (Err (StoreFull (suc i))) Accepted)
+        ≡ shifted_verdict (pick a (Err (Overlap (named_in s e).position (named_in s e).size)) (pick b (Err (StoreFull i)) Accepted))
     go true b = refl
     go false true = refl
     go false false = refl
@@ -131,18 +127,18 @@ answered-shifts : (s : State) (l : List Entry) (i : ℕ) → answered s (suc i) 
 answered-shifts s [] i = refl
 answered-shifts s (e ∷ none) i = answer-shifts s e i
 
-checked-shifts : (def : Bankdef) (n : Node) (at : Pos) (out : Offset) → checked true 1 def (up n) at out ≡ shifted_verdict (checked false 0 def n at out)
+checked-shifts : (def : Bankdef) (n : Node) (at : Pos) (out : Option ℕ) → checked true 1 def (up n) at out ≡ shifted_verdict (checked false 0 def n at out)
 unfolding checked
 checked-shifts def n at out = go (ends_past def.size (at.position + size_of n)) (is_written n && lacks_output out)
   where
     go : (a b : Bool)
-        → pick a (Refused (PastBank (suc n.index))) (pick b (Refused (NoOutput (suc n.index))) Accepted)
-        ≡ shifted_verdict (pick a (Refused (PastBank n.index)) (pick b (Refused (NoOutput n.index)) Accepted))
+        → pick a (Err (PastBank (suc n.index))) (pick b (Err (NoOutput (suc n.index))) Accepted)
+        ≡ shifted_verdict (pick a (Err (PastBank n.index)) (pick b (Err (NoOutput n.index)) Accepted))
     go true b = refl
     go false true = refl
     go false false = refl
 
-placing-shifts : (def : Bankdef) (s : State) (n : Node) (at : Pos) (out : Offset)
+placing-shifts : (def : Bankdef) (s : State) (n : Node) (at : Pos) (out : Option ℕ)
     → placing true 1 def s (up n) at out ≡ shifted_verdict (placing false 0 def s n at out)
 placing-shifts def s n at out =
     ap (λ (v : Verdict). pick (is_placed n) v Accepted)
@@ -154,16 +150,16 @@ placing-shifts def s n at out =
     law : {a b c d : Verdict} → a ≡ b → c ≡ d → first_of a c ≡ first_of b d
     law e f = rw (e, f)
 
-seen-verdict : (def : Bankdef) (s : State) (n : Node) (out : Offset) (m : Moved)
+seen-verdict : (def : Bankdef) (s : State) (n : Node) (out : Option ℕ) (m : Result Pos Refusal)
     → verdict_seen true 1 def s (up n) out (shifted_moved m) ≡ shifted_verdict (verdict_seen false 0 def s n out m)
-seen-verdict def s n out (To at) = placing-shifts def s n at out
-seen-verdict def s n out (Stopped why) = refl
+seen-verdict def s n out (Ok at) = placing-shifts def s n at out
+seen-verdict def s n out (Err why) = refl
 
 pub verdict-shifts : {v u : Visit} → Like v u → (s : State) → verdict_on true s u ≡ shifted_verdict (verdict_on false s v)
 verdict-shifts {v} {u} like s =
     law like.first like.second like.def like.node like.out like.seen (seen-verdict v.def s v.node v.out v.seen)
   where
-    law : {b c : ℕ} {d : Bankdef} {n : Node} {o : Offset} {m : Moved} → b ≡ 0 → c ≡ 1 → d ≡ v.def → n ≡ up v.node → o ≡ v.out
+    law : {b c : ℕ} {d : Bankdef} {n : Node} {o : Option ℕ} {m : Result Pos Refusal} → b ≡ 0 → c ≡ 1 → d ≡ v.def → n ≡ up v.node → o ≡ v.out
         → m ≡ shifted_moved v.seen
         → verdict_seen true 1 v.def s (up v.node) v.out (shifted_moved v.seen)
         ≡ shifted_verdict (verdict_seen false 0 v.def s v.node v.out v.seen)
@@ -184,7 +180,7 @@ next-shifts {v} {u} like (holds s) =
 
     go : (x : Verdict) (t : State) → placed_if (shifted_verdict x) t ≡ shifted_placed (placed_if x t)
     go Accepted t = refl
-    go (Refused why) t = refl
+    go (Err why) t = refl
 
 -- ---- the rows
 

@@ -1,5 +1,5 @@
 -- The two walks and their passes go alike: after i nodes here and i + 1 nodes there, bank 1 there stands where bank 0 stands here.
-use Rattle.std.specs.Prelude.{ℕ, zero, suc, max, ◌≡◌, Bool, ◌∷◌, get_or, length}
+use Rattle.std.specs.Prelude.{ℕ, zero, suc, max, ◌≡◌, Bool, ◌∷◌, get_or, length, Result, Ok, Err}
 use Rattle.std.proofs.Math.Path.{refl, ap}
 use Rattle.std.proofs.Common.{sym, ◌∙◌}
 use Rattle.std.proofs.Math.Bool.{true, false}
@@ -10,16 +10,12 @@ use Rattle.bankdef.specs.declared.Bankdef.{Bankdef}
 use Rattle.bankdef.specs.declared.Bankdefs.{Bankdefs}
 use Rattle.iter.specs.Step.{origin, no_lost, start_of, seen_of, moved_on, advanced_of, seen_skips, advance_skips, bank_after, step_of}
 use Rattle.iter.specs.declared.Lost.{Lost}
-use Rattle.iter.specs.declared.Moved.{Moved}
-use Rattle.iter.specs.declared.Moved.TheVariants.{To, Refused as Stopped}
 use Rattle.nodes.specs.declared.Node.{Node}
 use Rattle.iter.specs.declared.Pos.{Pos}
 use Rattle.iter.specs.declared.Walk.{Walk}
 use Rattle.nodes.specs.Lists.{Row}
 use Rattle.resolver.specs.Once.{Program, Going, on, off, node, bank_record, bank_of, step_at, walk_to}
 use Rattle.resolver.specs.Once.{label_state, off_boundary, state_of, met, goes_on, meets, pass_to, closed, pass_of}
-use Rattle.resolver.specs.declared.Pass.{Pass}
-use Rattle.resolver.specs.declared.Pass.TheVariants.{State, Refused}
 use Rattle.thm_conversions.specs.Widened.{turned, shifted}
 use Rattle.thm_conversions.specs.Steps.{up}
 use Rattle.thm_conversions.specs.Laws.Steps.{shifted_moved, in_first, in_second, Alike, stays-first, stays-second, steps_alike}
@@ -29,9 +25,9 @@ use Rattle.thm_conversions.specs.Cells.{zeroed}
 abbrev pub leading : Bankdefs → Program → Program
 leading table p = record { banks = table; kinds = 1 ∷ p.kinds; operands = 1 ∷ turned p.kinds p.operands; first = 0 ∷ p.first }
 
-abbrev pub shifted_pass : Pass → Pass
-shifted_pass (State s) = State s
-shifted_pass (Refused why) = Refused (shifted why)
+abbrev pub shifted_pass : Result ℕ Refusal → Result ℕ Refusal
+shifted_pass (Ok s) = Ok s
+shifted_pass (Err why) = Err (shifted why)
 
 -- Two passes under way that go alike.
 pub data Going-alike : Going → Going → Type 0 where
@@ -129,10 +125,10 @@ module _ (p : Program) (table : Bankdefs) (leads : Leads p table) where
 
   -- ---- the passes
 
-  label-alike : (def : Bankdef) (now : Pos) (before : Moved) (is_first : Bool)
+  label-alike : (def : Bankdef) (now : Pos) (before : Result Pos Refusal) (is_first : Bool)
       → label_state def now (shifted_moved before) is_first ≡ label_state def now before is_first
-  label-alike def now (To q) is_first = refl
-  label-alike def now (Stopped why) is_first = refl
+  label-alike def now (Ok q) is_first = refl
+  label-alike def now (Err why) is_first = refl
 
   pass-starts : (row before : Row) (is_first is_last : Bool) → pass_to p row before is_first is_last 0 ≡ on (in_first origin no_lost) 0
   unfolding pass_to start_of
@@ -145,16 +141,16 @@ module _ (p : Program) (table : Bankdefs) (leads : Leads p table) where
   pass-begins row before is_first false = refl
 
   module _ (row before : Row) (is_first is_last : Bool) where
-    met-alike : (n : Node) (earlier seen : Moved) (merged : ℕ) (at : Pos) (lost : Lost)
+    met-alike : (n : Node) (earlier seen : Result Pos Refusal) (merged : ℕ) (at : Pos) (lost : Lost)
         → Going-alike (goes_on (in_first at lost) (met here n earlier is_first is_last merged seen))
         (goes_on (in_second at lost) (met here (up n) (shifted_moved earlier) is_first is_last merged (shifted_moved seen)))
-    met-alike n earlier (Stopped why) merged at lost = both-off why
-    met-alike n earlier (To now) merged at lost =
+    met-alike n earlier (Err why) merged at lost = both-off why
+    met-alike n earlier (Ok now) merged at lost =
         rw (label-alike here now earlier is_first) (go (off_boundary here n now is_last) (max merged (state_of n (label_state here now earlier is_first))))
       where
         go : (t : Bool) (s : ℕ)
-            → Going-alike (goes_on (in_first at lost) (pick t (Refused (LabelOffBoundary n.index)) (State s)))
-            (goes_on (in_second at lost) (pick t (Refused (LabelOffBoundary (suc n.index))) (State s)))
+            → Going-alike (goes_on (in_first at lost) (pick t (Err (LabelOffBoundary n.index)) (Ok s)))
+            (goes_on (in_second at lost) (pick t (Err (LabelOffBoundary (suc n.index))) (Ok s)))
         go true s = both-off (LabelOffBoundary n.index)
         go false s = both-on at lost s
 
@@ -167,7 +163,7 @@ module _ (p : Program) (table : Bankdefs) (leads : Leads p table) where
         (record-here row i at lost) (record-there row i at lost) (leads.nodes row i) a.first a.second (seen_alike before i) a.seen
         (met-alike (node p row i) (step_at p before (walk_to p before i) i).seen (step_at p row (in_first at lost) i).seen merged a.at a.lost)
       where
-        law : (n : Node) (f x : Moved) {d e : Bankdef} {m : Node} {w v : Walk} {y g : Moved} {q : Pos} {k : Lost} → d ≡ here → e ≡ here → m ≡ up n
+        law : (n : Node) (f x : Result Pos Refusal) {d e : Bankdef} {m : Node} {w v : Walk} {y g : Result Pos Refusal} {q : Pos} {k : Lost} → d ≡ here → e ≡ here → m ≡ up n
             → w ≡ in_first q k
             → v ≡ in_second q k → g ≡ shifted_moved f → y ≡ shifted_moved x
             → Going-alike (goes_on (in_first q k) (met here n f is_first is_last merged x))

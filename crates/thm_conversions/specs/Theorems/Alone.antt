@@ -1,9 +1,8 @@
 -- Theorems about what Alone defines.
-use Rattle.std.specs.Prelude.{◌≡◌, ◌*◌}
+use Rattle.std.specs.Prelude.{◌≡◌, ◌*◌, None}
 use Rattle.std.proofs.Math.Path.{refl}
 use Rattle.std.proofs.Common.{ap, ◌∙◌, arith, le-ltb}
 use Rattle.prelude.specs.Laws.Pick.{pick-false}
-use Rattle.prelude.specs.declared.Opt.TheVariants.{None}
 use Rattle.prelude.specs.declared.Refusal.TheVariants.{DefaultBank}
 use Rattle.bankdef.specs.Check.{first_pair}
 use Rattle.bankdef.specs.Fill.{fill_from}
@@ -18,8 +17,8 @@ use Rattle.build_visits.specs.Visits.{visits_to, each}
 use Rattle.build_visits.specs.Items.{length_of}
 use Rattle.build_plan.specs.Placing.{checked, placed_from}
 use Rattle.output.specs.Output.{Room, room_for, refused_after, build_of}
-use Rattle.output.specs.declared.Build.TheVariants.{Done}
 use Rattle.output.specs.declared.Output.{Output}
+use Rattle.output.specs.Built.{done_with}
 use Rattle.form_fields.specs.Words.{word16, word32, word64}
 use Rattle.form_fields.specs.Columns.{column}
 use Rattle.form_fields.specs.Kind.{form1, form2, is1, is2}
@@ -34,7 +33,7 @@ use Rattle.thm_conversions.specs.Alone.{reserve}
 use Rattle.thm_conversions.specs.Laws.Alone.{back-short, reserve-fits, reserve-short}
 
 module _ (room : Room) where
-  enough : room_for room 1 0 0 ≡ Done 1 0 0
+  enough : room_for room 1 0 0 ≡ done_with 1 0 0
   enough = pick-false _ _ (le-ltb (8 * room.image) 0 (omega arith)) ∙ pick-false _ _ (le-ltb room.spans 0 (omega arith))
 
   refused : build_of (input_for form2 reserve 0) room ≡ refused_after 1 (DefaultBank 0)
@@ -52,6 +51,6 @@ module _ (room : Room) where
   alone-refused-in-form2 = written-output is2 reserve reserve-fits reserve-short 0 None room ∙ refused
 
   -- and accepted once it has gone back to form 1.
-  pub alone-accepted-in-form1 : (file_output (written form1 (to_form1 reserve)) 0 None room).build ≡ Done 1 0 0
+  pub alone-accepted-in-form1 : (file_output (written form1 (to_form1 reserve)) 0 None room).build ≡ done_with 1 0 0
   alone-accepted-in-form1 =
       ap (λ (o : Output). o.build) (written-output is1 (to_form1 reserve) (form1-fits reserve reserve-fits) back-short 0 None room) ∙ allowed ∙ enough

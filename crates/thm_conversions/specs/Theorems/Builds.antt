@@ -1,9 +1,8 @@
 -- Theorems about what Builds defines.
-use Rattle.std.specs.Prelude.{ℕ, ◌≡◌}
+use Rattle.std.specs.Prelude.{ℕ, ◌≡◌, Err}
 use Rattle.std.proofs.Math.Path.{refl, ap}
 use Rattle.std.proofs.Common.{sym, ◌∙◌}
-use Rattle.prelude.specs.declared.Verdict.{Verdict}
-use Rattle.prelude.specs.declared.Verdict.TheVariants.{Accepted, Refused as Turned}
+use Rattle.prelude.specs.Verdict.{Verdict, Accepted}
 use Rattle.bankdef.specs.declared.Bankdefs.{Bankdefs}
 use Rattle.output.specs.Output.{Input, Lent, room_of}
 use Rattle.output.specs.declared.Output.{Output}
@@ -34,7 +33,7 @@ module _ (b : Input) (table : Bankdefs) (one : OneBank b) (two : TwoBanks (only_
       go Accepted =
           let e = same-build b table one two old (own b old) (own (widened b table) old) in
           outcomes (e.0 ∙ ordinary b (room_of old)) e.1
-      go (Turned why) = refl
+      go (Err why) = refl
 
   -- Two calls of the build in the profile, by its contract, with the same lent: the answers are one but for the places, everything lent is the same.
   pub same-build-in-profile : (old : Lent) {r s : Output} {new other : Lent} → BuildsInProfile page b old r new

@@ -1,7 +1,6 @@
 -- Theorems about what Cases defines.
-use Rattle.std.specs.Prelude.{ℕ, zero, suc, ◌≡◌, refl, false, true, [], ◌∷◌, pos, get_or, replicate}
+use Rattle.std.specs.Prelude.{ℕ, zero, suc, ◌≡◌, refl, false, true, [], ◌∷◌, pos, get_or, replicate, None}
 use Rattle.std.proofs.Common.{arith}
-use Rattle.prelude.specs.declared.Opt.TheVariants.{None}
 use Rattle.bankdef.specs.Check.{no_bank}
 use Rattle.nodes.specs.Lists.{lists}
 use Rattle.output.specs.Output.{input}

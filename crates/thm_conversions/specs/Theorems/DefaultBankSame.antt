@@ -1,5 +1,5 @@
 -- Theorems about what Same defines.
-use Rattle.std.specs.Prelude.{ℕ, ◌*◌, ◌≤◌, ◌<◌, ◌≡◌, refl, Bool, true, false, List, [], ◌∷◌, ltb, get_or, length, take, replicate}
+use Rattle.std.specs.Prelude.{ℕ, ◌*◌, ◌≤◌, ◌<◌, ◌≡◌, refl, Bool, true, false, List, [], ◌∷◌, ltb, get_or, length, take, replicate, Err, Result, Ok}
 use Rattle.std.proofs.Common.{sym, ap, ◌∙◌, arith}
 use Rattle.prelude.specs.Laws.Bools.{either, both, unlike}
 use Rattle.prelude.specs.Limits.{max_banks}
@@ -7,8 +7,7 @@ use Rattle.prelude.specs.Pick.{pick}
 use Rattle.prelude.specs.Laws.Pick.{pick_true, pick-false}
 use Rattle.prelude.specs.declared.Refusal.{Refusal}
 use Rattle.prelude.specs.declared.Refusal.TheVariants.{BankCount, BankNumber, Malformed, TooShort}
-use Rattle.prelude.specs.declared.Verdict.{Verdict}
-use Rattle.prelude.specs.declared.Verdict.TheVariants.{Accepted, Refused as Turned}
+use Rattle.prelude.specs.Verdict.{Accepted, Verdict}
 use Rattle.bankdef.specs.Check.{no_bank, banks_of, count_sound, check_banks, check_of}
 use Rattle.bankdef.specs.Fill.{fill_by}
 use Rattle.bankdef.specs.Numbers.{fill_bit, bank_fault}
@@ -23,8 +22,6 @@ use Rattle.resolver.specs.Once.{Program, bank_record}
 use Rattle.resolver.specs.Passes.{program, row_of_pass, resolution_of}
 use Rattle.nodes.specs.Theorems.Sound.{accepted-lists}
 use Rattle.resolver.specs.declared.Resolution.{Resolution}
-use Rattle.resolver.specs.declared.Settled.{Settled}
-use Rattle.resolver.specs.declared.Settled.TheVariants.{At, Refused as Unsettled}
 use Rattle.build_write.specs.Blank.{blank_of}
 use Rattle.build_write.specs.Laws.Blank.{blank-zeros}
 use Rattle.build_visits.specs.Items.{Item, length_of, image_of, items_of}
@@ -34,9 +31,9 @@ use Rattle.output.specs.Output.{passes_of, settled_of, build_of, left_by, Builds
 use Rattle.build_plan.specs.Placing.{Placed, holds, stops, closes_default, placed_all}
 use Rattle.build_visits.specs.Spans.{Span, spans_of, over, addresses, words, sizes}
 use Rattle.build_visits.specs.Visits.{visits}
-use Rattle.output.specs.declared.Build.{Build}
-use Rattle.output.specs.declared.Build.TheVariants.{Done, Refused}
 use Rattle.output.specs.declared.Output.{Output}
+use Rattle.output.specs.declared.Built.{Built}
+use Rattle.output.specs.Built.{done_with}
 use Rattle.thm_conversions.specs.Widened.{only_bank, bare, two_banks, with_switch, closing, widened, with_bank1}
 use Rattle.thm_conversions.specs.Widened.{OneBank, shifted, misplaced, counts_sound, raised, raised_build, raised_output}
 use Rattle.thm_conversions.specs.Cells.{zeroed, Counted}
@@ -73,16 +70,16 @@ module _ (b : Input) (table : Bankdefs) (one : OneBank b) (two : TwoBanks (only_
 
   -- ---- before the passes
 
-  pub check-here : check_of b.banks ≡ pick (bank_fault (only_bank b)) (Turned (BankNumber 0)) Accepted
+  pub check-here : check_of b.banks ≡ pick (bank_fault (only_bank b)) (Err (BankNumber 0)) Accepted
   check-here = law one.count single ∙ one-bank-check (only_bank b) one.bit
     where
-      law : {n : ℕ} {k : List Bankdef} → n ≡ 1 → k ≡ only_bank b ∷ [] → pick (count_sound n) (check_banks k) (Turned BankCount) ≡ check_banks (only_bank b ∷ [])
+      law : {n : ℕ} {k : List Bankdef} → n ≡ 1 → k ≡ only_bank b ∷ [] → pick (count_sound n) (check_banks k) (Err BankCount) ≡ check_banks (only_bank b ∷ [])
       law e f = rw (e, f)
 
-  pub check-there : check_of table ≡ pick (bank_fault (only_bank b)) (Turned (BankNumber (pick (misplaced (only_bank b)) 0 1))) Accepted
+  pub check-there : check_of table ≡ pick (bank_fault (only_bank b)) (Err (BankNumber (pick (misplaced (only_bank b)) 0 1))) Accepted
   check-there = law two.count two.banks ∙ two-bank-check (only_bank b)
     where
-      law : {n : ℕ} {k x : List Bankdef} → n ≡ 2 → k ≡ x → pick (count_sound n) (check_banks k) (Turned BankCount) ≡ check_banks x
+      law : {n : ℕ} {k x : List Bankdef} → n ≡ 2 → k ≡ x → pick (count_sound n) (check_banks k) (Err BankCount) ≡ check_banks x
       law e f = rw (e, f)
 
   -- with sound banks: what the checks say, and where a refusal's place goes
@@ -195,8 +192,8 @@ module _ (b : Input) (table : Bankdefs) (one : OneBank b) (two : TwoBanks (only_
       miscounted e =
           let why = Malformed (pick (row_count_sound l) 3 1) in
           from-layouts {x = turned_away why} {y = turned_away why}
-          (lists-here (Turned why) (field-here l counted one.switches one.room b.choices.fill e))
-          (lists-there (Turned why) (field-there l counted one.switches one.room b.choices.fill e))
+          (lists-here (Err why) (field-here l counted one.switches one.room b.choices.fill e))
+          (lists-there (Err why) (field-there l counted one.switches one.room b.choices.fill e))
           (away why why (stays-miscounted sound e why))
 
       module _ (counts : counts_sound b ≡ true) where
@@ -218,15 +215,15 @@ module _ (b : Input) (table : Bankdefs) (one : OneBank b) (two : TwoBanks (only_
         room-alike k bits spans = go (ltb (8 * room.image) bits) (ltb room.spans spans)
           where
             go : (x y : Bool)
-                → pick x (Refused (TooShort 0)) (pick y (Refused (TooShort 1)) (Done k bits spans))
-                ≡ raised_build b (pick x (Refused (TooShort 0)) (pick y (Refused (TooShort 1)) (Done k bits spans)))
-            go true y = ap (λ (why : Refusal). Refused why) (shifts-counted sound counts (TooShort 0))
-            go false true = ap (λ (why : Refusal). Refused why) (shifts-counted sound counts (TooShort 1))
+                → pick x (Err (TooShort 0)) (pick y (Err (TooShort 1)) (done_with k bits spans))
+                ≡ raised_build b (pick x (Err (TooShort 0)) (pick y (Err (TooShort 1)) (done_with k bits spans)))
+            go true y = ap (λ (why : Refusal). Err why) (shifts-counted sound counts (TooShort 0))
+            go false true = ap (λ (why : Refusal). Err why) (shifts-counted sound counts (TooShort 1))
             go false false = refl
 
         placed_alike : (k bits spans : ℕ) (q : Placed) → placed_build room k bits spans (shifted_placed q) ≡ raised_build b (placed_build room k bits spans q)
         placed_alike k bits spans (holds stored) = room-alike k bits spans
-        placed_alike k bits spans (stops why) = ap (λ (r : Refusal). Refused r) (shifts-counted sound counts why)
+        placed_alike k bits spans (stops why) = ap (λ (r : Refusal). Err r) (shifts-counted sound counts why)
 
         row-alike : (n k : ℕ) → build_row (closed_of w) (visits_of w n) (fill_of w) room k ≡ raised_build b (build_row (closed_of b) (visits_of b n) (fill_of b) room k)
         row-alike n k =
@@ -238,17 +235,17 @@ module _ (b : Input) (table : Bankdefs) (one : OneBank b) (two : TwoBanks (only_
                 → placed_build room k (length_of f i) (length s) p ≡ placed_build room k (length_of g j) (length t) q
             law e f g h = rw (e, f, g, h)
 
-        settled-alike : (n : ℕ) (s : Settled) → settled_build w room n (shifted_settled s) ≡ raised_build b (settled_build b room n s)
-        settled-alike n (At k) = row-alike n k
-        settled-alike n (Unsettled why) = ap (λ (r : Refusal). Refused r) (shifts-counted sound counts why)
+        settled-alike : (n : ℕ) (s : Result ℕ Refusal) → settled_build w room n (shifted_settled s) ≡ raised_build b (settled_build b room n s)
+        settled-alike n (Ok k) = row-alike n k
+        settled-alike n (Err why) = ap (λ (r : Refusal). Err r) (shifts-counted sound counts why)
 
-        output-alike : (n : ℕ) (x : Build)
+        output-alike : (n : ℕ) (x : Result Built Refusal)
             → output_of (program table (with_switch l)) (row_of_pass (with_switch l) n) n (raised_build b x) ≡ raised_output b (output_of sides (row_of_pass l n) n x)
-        output-alike n (Done k bits spans) = ap (with-padding (Done k bits spans)) (same-paddings some n)
+        output-alike n (Ok ended) = ap (with-padding (Ok ended)) (same-paddings some n)
           where
-            with-padding : Build → List Lost → Output
+            with-padding : Result Built Refusal → List Lost → Output
             with-padding x sums = record { build = x; passes = n; padding = sums }
-        output-alike n (Refused why) = refl
+        output-alike n (Err why) = refl
 
         built_alike : (r : Resolution) → built_by w room (shifted_resolution r) ≡ raised_output b (built_by b room r)
         built_alike r =
@@ -256,9 +253,9 @@ module _ (b : Input) (table : Bankdefs) (one : OneBank b) (two : TwoBanks (only_
             ∙ output-alike r.passes (settled_build b room r.passes r.settled)
 
         laid : (v : Verdict) → lists_of 1 l b.choices.fill ≡ v → Goal
-        laid (Turned why) e =
+        laid (Err why) e =
             from-layouts {x = turned_away why} {y = turned_away (shifted why)}
-            (lists-here (Turned why) e) (lists-there (Turned (shifted why)) (lists-shifted ∙ ap shifted_verdict e))
+            (lists-here (Err why) e) (lists-there (Err (shifted why)) (lists-shifted ∙ ap shifted_verdict e))
             (away why (shifted why) (shifts-counted sound counts why))
         laid Accepted e =
             from-layouts {x = resolution_of b.banks l b.choices.limit} {y = shifted_resolution (resolution_of b.banks l b.choices.limit)}
@@ -287,20 +284,20 @@ module _ (b : Input) (table : Bankdefs) (one : OneBank b) (two : TwoBanks (only_
       second : (k : ℕ) → 0 < k → k < 2 → fill_bit (get_or (bare (only_bank b) ∷ only_bank b ∷ []) k no_bank) ≡ 0
       second k low high = let e : k ≡ 1 = omega arith in rw e one.bit
 
-  some-rows : (room : Room) (passes : ℕ) (s : Settled) → settled_of b ≡ s → {k bits spans : ℕ} → settled_build b room passes s ≡ Done k bits spans → 1 ≤ l.rows
-  some-rows room passes (At k) e f =
+  some-rows : (room : Room) (passes : ℕ) (s : Result ℕ Refusal) → settled_of b ≡ s → {k bits spans : ℕ} → settled_build b room passes s ≡ done_with k bits spans → 1 ≤ l.rows
+  some-rows room passes (Ok k) e f =
       (accepted-lists b.banks.len l b.choices.fill (accepted-checked b.banks l b.choices k e).lists).rows.some
-  some-rows room passes (Unsettled why) e f = absurd (never f)
+  some-rows room passes (Err why) e f = absurd (never f)
     where
-      never : {k bits spans : ℕ} → Refused why ≡ Done k bits spans → ⊥
+      never : {k bits spans : ℕ} → Err why ≡ done_with k bits spans → ⊥
       never g = unlike cc
 
-  left-alike : (values : List ℕ) (old : Lent) (n : ℕ) (x : Build) → ((k bits spans : ℕ) → x ≡ Done k bits spans → 1 ≤ l.rows)
+  left-alike : (values : List ℕ) (old : Lent) (n : ℕ) (x : Result Built Refusal) → ((k bits spans : ℕ) → x ≡ done_with k bits spans → 1 ≤ l.rows)
       → left_by table (visits_of w n) values old (raised_build b x) ≡ left_by b.banks (visits_of b n) values old x
-  left-alike values old n (Refused why) rows = refl
-  left-alike values old n (Done k bits spans) rows =
-      let some = rows k bits spans refl in
-      law (zeros-there bits (length old.image) ∙ sym (zeros-here bits (length old.image))) (same-items some n) (same-spans some n)
+  left-alike values old n (Err why) rows = refl
+  left-alike values old n (Ok ended) rows =
+      let some = rows ended.k ended.length ended.spans refl in
+      law (zeros-there ended.length (length old.image) ∙ sym (zeros-here ended.length (length old.image))) (same-items some n) (same-spans some n)
     where
       left : List ℕ → List Item → List Span → Lent
       left blank items spans =
@@ -318,7 +315,7 @@ module _ (b : Input) (table : Bankdefs) (one : OneBank b) (two : TwoBanks (only_
   pub same-build : (old : Lent) {r s : Output} {new other : Lent} → Builds b old r new → Builds w old s other → (s ≡ raised_output b r) × (other ≡ new)
   same-build old {r} {s} here there =
       let answers : s ≡ raised_output b r = there.answer ∙ same_answer (room_of old) ∙ ap (raised_output b) (sym here.answer) in
-      let rows : (k bits spans : ℕ) → r.build ≡ Done k bits spans → 1 ≤ l.rows =
+      let rows : (k bits spans : ℕ) → r.build ≡ done_with k bits spans → 1 ≤ l.rows =
       λ k bits spans e. some-rows (room_of old) (passes_of b) (settled_of b) refl (sym (built old r here.answer) ∙ e) in (
         answers,
         there.left

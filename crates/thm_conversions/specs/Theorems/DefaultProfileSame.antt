@@ -1,5 +1,5 @@
 -- Theorems about what Same defines.
-use Rattle.std.specs.Prelude.{ℕ, ◌-◌, ◌≡◌, refl, true, false, get_or}
+use Rattle.std.specs.Prelude.{ℕ, ◌-◌, ◌≡◌, refl, true, false, get_or, Err}
 use Rattle.std.proofs.Common.{sym, ◌∙◌}
 use Rattle.std.proofs.Math.Path.{ap}
 use mathlib.Core.List.{List, [], ◌∷◌, ◌++◌, map}
@@ -10,8 +10,7 @@ use Rattle.prelude.specs.Pick.{pick}
 use Rattle.prelude.specs.Laws.Pick.{pick_true}
 use Rattle.prelude.specs.declared.Refusal.{Refusal}
 use Rattle.prelude.specs.declared.Refusal.TheVariants.{Malformed, OffProfile}
-use Rattle.prelude.specs.declared.Verdict.{Verdict}
-use Rattle.prelude.specs.declared.Verdict.TheVariants.{Accepted, Refused}
+use Rattle.prelude.specs.Verdict.{Verdict, Accepted}
 use Rattle.bankdef.specs.Check.{check_of}
 use Rattle.bankdef.specs.Numbers.{bank_fault}
 use Rattle.bankdef.specs.declared.Bankdef.{Bankdef}
@@ -58,7 +57,7 @@ module _ (b : Input) (table : Bankdefs) (one : OneBank b) (two : TwoBanks (only_
       law : {a b c x y z : Verdict} → a ≡ x → b ≡ y → c ≡ z → first_of a (first_of b c) ≡ first_of x (first_of y z)
       law e f g = rw (e, f, g)
 
-  refusing : {why other : Refusal} → why ≡ other → ◌≡◌ {A = Verdict} (Refused why) (Refused other)
+  refusing : {why other : Refusal} → why ≡ other → ◌≡◌ {A = (Verdict)} (Err why) (Err other)
   refusing e = rw e
 
   -- 2
@@ -129,7 +128,7 @@ module _ (b : Input) (table : Bankdefs) (one : OneBank b) (two : TwoBanks (only_
     where
       go : (v : Verdict) → paged_by (raised_verdict b v) page table ≡ raised_paged b (paged_by v page b.banks)
       go Accepted = ap (λ (p : List ℕ). record { verdict = Accepted; pages = p }) same-pages
-      go (Refused why) = refl
+      go (Err why) = refl
 
 -- Of the layout with the table that the converter makes.
 pub converted-same-profile : (b : Input) → OneBank b → (page : ℕ) → profiled (with_bank1 b) page ≡ raised_paged b (profiled b page)

@@ -4,7 +4,6 @@ use Rattle.std.proofs.Common.{ap}
 use Rattle.prelude.specs.Laws.Bools.{either, clash}
 use Rattle.form_fields.specs.declared.Kind.{Kind}
 use Rattle.form_fields.specs.Contents.{Contents}
-use Rattle.form_convert.specs.declared.Conversion.{Conversion}
 use Rattle.form_rewrite.specs.Turning.{all_of, bit_clear, drops_bit}
 use Rattle.form_convert.specs.Convert.{Converts}
 use Rattle.thm_conversions.specs.Laws.Exactly.{each-clear}

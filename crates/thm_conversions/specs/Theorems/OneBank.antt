@@ -1,8 +1,7 @@
 -- Theorems about what OneBank defines.
-use Rattle.std.specs.Prelude.{List, [], ◌≡◌, refl, ℕ, suc, ◌≤◌, length, get_or, take}
+use Rattle.std.specs.Prelude.{List, [], ◌≡◌, refl, ℕ, suc, ◌≤◌, length, get_or, take, Option, Ok}
 use Rattle.std.proofs.Common.{sym, ap, subst, ◌∙◌, arith, eq-eqb}
 use Rattle.std.proofs.lemmas.List.{length-map}
-use Rattle.prelude.specs.declared.Opt.{Opt}
 use Rattle.bankdef.specs.Search.{first_where}
 use Rattle.output.specs.Output.{Lent}
 use Rattle.output.specs.declared.Output.{Output}
@@ -10,7 +9,6 @@ use Rattle.form_fields.specs.Kind.{form1, form2, is1}
 use Rattle.form_fields.specs.Contents.{Contents, written}
 use Rattle.form_fields.specs.Whole.{contents_in, Bytes}
 use Rattle.form_build.specs.Filed.{FileBuilt}
-use Rattle.form_convert.specs.declared.Conversion.TheVariants.{Converted}
 use Rattle.form_rewrite.specs.Turning.{strays, turned, widened, to_form2}
 use Rattle.form_convert.specs.Convert.{drops_none, ToForm2}
 use Rattle.thm_conversions.specs.Says.{input_for}
@@ -20,7 +18,7 @@ use Rattle.thm_conversions.specs.OneBank.{holding}
 use Rattle.thm_conversions.specs.PagedPlaces.{raised_in}
 
 -- So it is with a page size, where 19 comes too.
-pub widened-same-build-in : (c : Contents) (fill : ℕ) (page : Opt) {old new : Lent} {r : Output} → Single c → FileBuilt (written form1 c) fill page old r new
+pub widened-same-build-in : (c : Contents) (fill : ℕ) (page : Option ℕ) {old new : Lent} {r : Output} → Single c → FileBuilt (written form1 c) fill page old r new
     → FileBuilt (written form2 (widened c)) fill page old (raised_in page (input_for form1 c fill) r) new
 widened-same-build-in c fill page {old} {new} {r} s =
     subst (λ (d : Contents). Single d → FileBuilt (written form1 d) fill page old r new
@@ -31,7 +29,7 @@ widened-same-build-in c fill page {old} {new} {r} s =
 -- ---- the call
 
 -- What is known of a one-bank file that was converted to form 2: it is the file of contents with one bank, and what was written is that of what they become.
-pub converted-single : (file out : List ℕ) (n : ℕ) (new : List ℕ) → Bytes file → ToForm2 file out (Converted n) new
+pub converted-single : (file out : List ℕ) (n : ℕ) (new : List ℕ) → Bytes file → ToForm2 file out (Ok n) new
     → length (contents_in form1 file).banks ≡ 1
     → Single (contents_in form1 file) × (file ≡ written form1 (contents_in form1 file)) × (take n new ≡ written form2 (widened (contents_in form1 file)))
 converted-single file out n new bytes call one =

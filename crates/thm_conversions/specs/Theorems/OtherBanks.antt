@@ -1,17 +1,14 @@
 -- A file that does not have exactly one bank, converted. Document 02, Ticket 7: "A converter goes from form 1 to form 2, with fill bits zero, and back."
 -- To form 2, and back from form 2 where the file has not Ticket 13's shape: the same verdict, place, K, passes, length, spans and padding, and everything
 -- lent the same afterwards, with a page size or without.
-use Rattle.std.specs.Prelude.{Bool, true, false, List, ◌++◌, ◌≡◌, ℕ, ◌≤◌, ◌<◌, length, take}
+use Rattle.std.specs.Prelude.{Bool, true, false, List, ◌++◌, ◌≡◌, ℕ, ◌≤◌, ◌<◌, length, take, Err, Option, None, Some, Ok}
 use Rattle.std.proofs.Common.{⊎_elim, sym, ap₂, subst, ◌∙◌, ne_eqb}
 use Rattle.std.proofs.Math.Path.{refl, ap}
 use Rattle.std.proofs.lemmas.Bool.{not-false}
 use Rattle.std.proofs.lemmas.List.{length-map}
 use Rattle.prelude.specs.Pick.{pick}
-use Rattle.prelude.specs.declared.Opt.{Opt}
-use Rattle.prelude.specs.declared.Opt.TheVariants.{None, Some}
 use Rattle.prelude.specs.declared.Refusal.TheVariants.{BankCount}
-use Rattle.prelude.specs.declared.Verdict.{Verdict}
-use Rattle.prelude.specs.declared.Verdict.TheVariants.{Refused as Turned}
+use Rattle.prelude.specs.Verdict.{Verdict}
 use Rattle.bankdef.specs.Check.{count_sound, check_banks, banks_of}
 use Rattle.bankdef.specs.declared.Bankdef.{Bankdef}
 use Rattle.nodes.specs.Lists.{lists_of}
@@ -19,7 +16,6 @@ use Rattle.resolver.specs.Passes.{program, row_of_pass, resolution_of}
 use Rattle.resolver.specs.Layout.{layout_of, unless}
 use Rattle.resolver.specs.declared.Choices.{Choices}
 use Rattle.resolver.specs.declared.Resolution.{Resolution}
-use Rattle.resolver.specs.declared.Settled.TheVariants.{Refused as Unsettled}
 use Rattle.output.specs.DefaultBank.{with_closed}
 use Rattle.output.specs.Theorems.DefaultBank.{same-with-other-banks}
 use Rattle.output.specs.Output.{Input, input, Lent, Room, room_of, output_of, settled_build, build_of}
@@ -31,7 +27,6 @@ use Rattle.form_fields.specs.Whole.{contents_in, Bytes}
 use Rattle.form_fields.specs.Banks.{bank_of}
 use Rattle.form_build.specs.Filed.{file_output, FileBuilt}
 use Rattle.form_build.specs.Paged.{after_said, output_in, BuiltIn}
-use Rattle.form_convert.specs.declared.Conversion.TheVariants.{Converted}
 use Rattle.form_rewrite.specs.Turning.{zeros, lengthened, shortened, shaped, all_of, bit_clear, drops_bit, to_form2, to_form1}
 use Rattle.form_convert.specs.Convert.{drops_none, ToForm2, ToForm1}
 use Rattle.form_rewrite.specs.Theorems.Fitting.{lengthened-fits}
@@ -51,7 +46,7 @@ module _ (b : Input) (closed : Bool) (room : Room) where
   build-is x = refl
 
   abbrev counted : Resolution
-  counted = record { settled = Unsettled BankCount; passes = 0 }
+  counted = record { settled = Err BankCount; passes = 0 }
 
   -- 1
   no-bank : b.banks.len ≡ 0 → (choices : Choices) → layout_of b.banks b.lists choices ≡ counted
@@ -60,7 +55,7 @@ module _ (b : Input) (closed : Bool) (room : Room) where
       ap (λ (v : Verdict). unless v (unless (lists_of b.banks.len b.lists choices.fill) (resolution_of b.banks b.lists choices.limit)))
       (law (check_banks (banks_of b.banks)) e)
     where
-      law : {n : ℕ} (v : Verdict) → n ≡ 0 → pick (count_sound n) v (Turned BankCount) ≡ Turned BankCount
+      law : {n : ℕ} (v : Verdict) → n ≡ 0 → pick (count_sound n) v (Err BankCount) ≡ Err BankCount
       law v f = rw f
 
   none : b.banks.len ≡ 0 → build_of (with_closed b closed) room ≡ build_of b room
@@ -73,7 +68,7 @@ module _ (b : Input) (closed : Bool) (room : Room) where
       ⊎_elim (λ (e : b.banks.len ≡ 0). none e) (λ (e : 1 < b.banks.len). same-with-other-banks b closed e room) (none-or-more b.banks.len other)
 
   -- in the profile too, which does not read that choice
-  pub same-in-profile : (page : Opt) → (b.banks.len ≡ 1 → ⊥) → output_in page (with_closed b closed) room ≡ output_in page b room
+  pub same-in-profile : (page : Option ℕ) → (b.banks.len ≡ 1 → ⊥) → output_in page (with_closed b closed) room ≡ output_in page b room
   same-in-profile None other = same-unless-one other
   same-in-profile (Some bits) other = ap (after_said (said_of bits b)) (same-unless-one other)
 
@@ -87,7 +82,7 @@ module _ (c : Contents) (fits : Fits form1 c) where
       (map-over (BankFits form1) (bank_of form1) (bank_of form2) (λ (b : List ℕ). b ++ zeros 1) bank-lengthened c.banks fits.of-banks)
 
   module _ (short : length (written form1 c) ≤ form1.longest) (short2 : length (written form2 (lengthened c)) ≤ form2.longest)
-      (other : length c.banks ≡ 1 → ⊥) (fill : ℕ) (page : Opt) where
+      (other : length c.banks ≡ 1 → ⊥) (fill : ℕ) (page : Option ℕ) where
     pub lengthened-same-answer : (room : Room) → file_output (written form2 (lengthened c)) fill page room ≡ file_output (written form1 c) fill page room
     lengthened-same-answer room =
         written-output is2 (lengthened c) (lengthened-fits c fits) short2 fill page room
@@ -115,7 +110,7 @@ module _ (c : Contents) (fits : Fits form2 c) (clear : all_of bit_clear c.banks 
       (each-clear c.banks fits.of-banks clear))
 
   module _ (short : length (written form2 c) ≤ form2.longest) (short1 : length (written form1 (shortened c)) ≤ form1.longest)
-      (other : length c.banks ≡ 1 → ⊥) (fill : ℕ) (page : Opt) where
+      (other : length c.banks ≡ 1 → ⊥) (fill : ℕ) (page : Option ℕ) where
     pub shortened-same-answer : (room : Room) → file_output (written form1 (shortened c)) fill page room ≡ file_output (written form2 c) fill page room
     shortened-same-answer room =
         written-output is1 (shortened c) (shortened-fits c fits) short1 fill page room
@@ -135,8 +130,8 @@ module _ (c : Contents) (fits : Fits form2 c) (clear : all_of bit_clear c.banks 
 -- ---- the calls
 
 -- A file that was converted to form 2 and has not exactly one bank is built as before: the same answer, and everything lent the same afterwards.
-pub form2-same-build : (file out : List ℕ) (n : ℕ) (new : List ℕ) → Bytes file → ToForm2 file out (Converted n) new
-    → (length (contents_in form1 file).banks ≡ 1 → ⊥) → (fill : ℕ) (page : Opt) {old left : Lent} {r : Output}
+pub form2-same-build : (file out : List ℕ) (n : ℕ) (new : List ℕ) → Bytes file → ToForm2 file out (Ok n) new
+    → (length (contents_in form1 file).banks ≡ 1 → ⊥) → (fill : ℕ) (page : Option ℕ) {old left : Lent} {r : Output}
     → FileBuilt file fill page old r left → FileBuilt (take n new) fill page old r left
 form2-same-build file out n new bytes call other fill page {old} {left} {r} p =
     let c = contents_in form1 file in
@@ -149,8 +144,8 @@ form2-same-build file out n new bytes call other fill page {old} {left} {r} p =
     (subst (λ (f : List ℕ). FileBuilt f fill page old r left) (sym t.is) p))
 
 -- So is one that was converted back and has neither exactly one bank nor the shape of Ticket 13.
-pub form1-same-build : (file out : List ℕ) (n : ℕ) (new : List ℕ) → Bytes file → ToForm1 file out (Converted n) new
-    → (length (contents_in form2 file).banks ≡ 1 → ⊥) → shaped (contents_in form2 file) ≡ false → (fill : ℕ) (page : Opt) {old left : Lent} {r : Output}
+pub form1-same-build : (file out : List ℕ) (n : ℕ) (new : List ℕ) → Bytes file → ToForm1 file out (Ok n) new
+    → (length (contents_in form2 file).banks ≡ 1 → ⊥) → shaped (contents_in form2 file) ≡ false → (fill : ℕ) (page : Option ℕ) {old left : Lent} {r : Output}
     → FileBuilt file fill page old r left → FileBuilt (take n new) fill page old r left
 form1-same-build file out n new bytes call other plain fill page {old} {left} {r} p =
     let c = contents_in form2 file in

@@ -1,5 +1,5 @@
 -- Theorems about what PagedPlaces defines: the build with a page size of a layout with one bank, and of the same layout with a bank 1.
-use Rattle.std.specs.Prelude.{ℕ, suc, ◌<◌, ◌≡◌, Bool, true, false}
+use Rattle.std.specs.Prelude.{ℕ, suc, ◌<◌, ◌≡◌, Bool, true, false, Some, Err, Result}
 use Rattle.std.proofs.Math.Path.{refl}
 use Rattle.std.proofs.Common.{sym, ap, subst, ◌∙◌, arith}
 use Rattle.prelude.specs.Laws.Bools.{either, unlike}
@@ -7,20 +7,17 @@ use Rattle.prelude.specs.Laws.Pick.{pick_true}
 use Rattle.prelude.specs.Pick.{pick}
 use Rattle.prelude.specs.Refusals.{number_of}
 use Rattle.prelude.specs.Told.{Told, told_number}
-use Rattle.prelude.specs.declared.Opt.TheVariants.{Some}
 use Rattle.prelude.specs.declared.Refusal.{Refusal}
 use Rattle.prelude.specs.declared.Refusal.TheVariants.{BankCount, OffProfile}
-use Rattle.prelude.specs.declared.Verdict.{Verdict}
-use Rattle.prelude.specs.declared.Verdict.TheVariants.{Accepted, Refused as Turned}
+use Rattle.prelude.specs.Verdict.{Verdict, Accepted}
 use Rattle.bankdef.specs.Check.{check_of}
 use Rattle.bankdef.specs.Numbers.{bank_fault}
 use Rattle.bankdef.specs.declared.Bankdefs.{Bankdefs}
 use Rattle.nodes.specs.Lists.{first_of, lists_of}
 use Rattle.resolver.specs.declared.Resolution.{Resolution}
 use Rattle.output.specs.Output.{Input, Lent, Room, room_of, build_of, settled_build, Figures, told_build}
-use Rattle.output.specs.declared.Build.{Build}
-use Rattle.output.specs.declared.Build.TheVariants.{Refused}
 use Rattle.output.specs.declared.Output.{Output}
+use Rattle.output.specs.declared.Built.{Built}
 use Rattle.build_profile.specs.Kept as kept
 use Rattle.build_profile.specs.Kept.{Breaks, Judged}
 use Rattle.build_profile.specs.Profile.{verdict_of}
@@ -54,7 +51,7 @@ module _ (b : Input) (table : Bankdefs) (one : OneBank b) (two : TwoBanks (only_
     where
       go : (v : Verdict) → after_said (raised_verdict b v) (build_of (widened b table) room) ≡ profile_output b (after_said v (build_of b room))
       go Accepted = same_answer b table one two room ∙ ordinary b room
-      go (Turned why) = refl
+      go (Err why) = refl
 
   same-leaves : (old : Lent) → leaves (widened b table) old (profile_output b (output_in (Some page) b (room_of old)))
       ≡ leaves b old (output_in (Some page) b (room_of old))
@@ -65,7 +62,7 @@ module _ (b : Input) (table : Bankdefs) (one : OneBank b) (two : TwoBanks (only_
       go Accepted =
           ap (leaves (widened b table) old) (sym (same_answer b table one two (room_of old) ∙ ordinary b (room_of old)))
           ∙ (same-build b table one two old (own b old) (own (widened b table) old)).1
-      go (Turned why) = refl
+      go (Err why) = refl
 
   -- Everything lent is the same.
   pub same-paged-build : {old new : Lent} {r : Output} → BuiltIn (Some page) b old r new → BuiltIn (Some page) (widened b table) old (profile_output b r) new
@@ -80,30 +77,30 @@ module _ (b : Input) (table : Bankdefs) (one : OneBank b) (two : TwoBanks (only_
 
 abbrev why_of : Verdict → Refusal
 why_of Accepted = BankCount
-why_of (Turned why) = why
+why_of (Err why) = why
 
 module _ (b : Input) (one : OneBank b) (page : ℕ) (room : Room) where
   abbrev Becomes : Refusal → Type 0
   Becomes why = PagedRises b why (raised b (rule_raised why))
 
   -- a refusal of the ordinary build
-  from-build : (why : Refusal) → (build_of b room).build ≡ Refused why → Becomes why
+  from-build : (why : Refusal) → (build_of b room).build ≡ Err why → Becomes why
   from-build why e =
       let low : told_number (told_build (build_of b room).build) < 17 =
       subst (λ (t : Told Figures). told_number t < 17) (sym (build-told b room)) (ordinary-below-17 b room) in
-      let stays : rule_raised why ≡ why = other-stays why (subst (λ (x : Build). told_number (told_build x) < 17) e low) in
+      let stays : rule_raised why ≡ why = other-stays why (subst (λ (x : Result Built Refusal). told_number (told_build x) < 17) e low) in
       subst (λ (w : Refusal). PagedRises b why (raised b w)) (sym stays) (places.ordinary (ordinary-places.rises b one room why e))
 
-  table-refuses : {why : Refusal} → check_of b.banks ≡ Turned why → (build_of b room).build ≡ Refused why
+  table-refuses : {why : Refusal} → check_of b.banks ≡ Err why → (build_of b room).build ≡ Err why
   table-refuses {why} e =
       ap (λ (o : Output). o.build) (build-is b room)
       ∙ ap (λ (r : Resolution). settled_build b room r.passes r.settled) (refused-first b.banks b.lists b.choices why e)
 
-  lists-refuse : {why : Refusal} → check_of b.banks ≡ Accepted → lists_of b.banks.len b.lists b.choices.fill ≡ Turned why
-      → (build_of b room).build ≡ Refused why
+  lists-refuse : {why : Refusal} → check_of b.banks ≡ Accepted → lists_of b.banks.len b.lists b.choices.fill ≡ Err why
+      → (build_of b room).build ≡ Err why
   lists-refuse {why} c e =
       ap (λ (o : Output). o.build) (build-is b room)
-      ∙ ap (λ (r : Resolution). settled_build b room r.passes r.settled) (after_table b.banks b.lists b.choices (Turned why) c e)
+      ∙ ap (λ (r : Resolution). settled_build b room r.passes r.settled) (after_table b.banks b.lists b.choices (Err why) c e)
 
   -- 19: the one bank is bank 0
   at_zero : {k : ℕ} (why other : ℕ → Refusal) → k < b.banks.len → PagedRises b (why 0) (other 0) → PagedRises b (why k) (other k)
@@ -128,31 +125,31 @@ module _ (b : Input) (one : OneBank b) (page : ℕ) (room : Room) where
   stays : check_of b.banks ≡ Accepted → (rule at : ℕ) → raised b (OffProfile rule at) ≡ OffProfile rule at
   stays c rule at =
       either (bank_fault (only_bank b))
-      (λ t. absurd (let z : ◌≡◌ {A = Verdict} (Turned _) Accepted =
+      (λ t. absurd (let z : ◌≡◌ {A = (Verdict)} (Err _) Accepted =
       sym (check-here b (two_banks (only_bank b)) one (two-banks (only_bank b)) ∙ pick_true _ _ t) ∙ c in
       unlike cc))
       (λ f. picked (bank_fault (only_bank b)) (counts_sound b) _ (OffProfile rule at) f)
 
   go : (c : Verdict) → check_of b.banks ≡ c → (v : Verdict) → lists_of b.banks.len b.lists b.choices.fill ≡ v → {w : Verdict}
-      → Judged b.banks b.lists page w → (why : Refusal) → first_of c (first_of v w) ≡ Turned why → Becomes why
-  go (Turned x) f v g j why e = subst Becomes (ap why_of e) (from-build x (table-refuses f))
-  go Accepted f (Turned x) g j why e = subst Becomes (ap why_of e) (from-build x (lists-refuse f g))
+      → Judged b.banks b.lists page w → (why : Refusal) → first_of c (first_of v w) ≡ Err why → Becomes why
+  go (Err x) f v g j why e = subst Becomes (ap why_of e) (from-build x (table-refuses f))
+  go Accepted f (Err x) g j why e = subst Becomes (ap why_of e) (from-build x (lists-refuse f g))
   go Accepted f Accepted g (kept.keeps h) why e = unlike cc
   go Accepted f Accepted g (kept.breaks {rule} {at} h) why e =
       subst Becomes (ap why_of e)
       (subst (λ (w : Refusal). PagedRises b (OffProfile rule at) w) (sym (stays f rule (place_raised rule at))) (off-rule h))
 
-  said-becomes : (why : Refusal) → said_of page b ≡ Turned why → Becomes why
+  said-becomes : (why : Refusal) → said_of page b ≡ Err why → Becomes why
   unfolding verdict_of
   said-becomes why e = go (check_of b.banks) refl (lists_of b.banks.len b.lists b.choices.fill) refl (judged b.banks b.lists page) why e
 
   -- Every refusal of the layout with one bank, and what it is in the other.
-  pub paged-rises : (why : Refusal) → (output_in (Some page) b room).build ≡ Refused why → PagedRises b why (raised b (rule_raised why))
+  pub paged-rises : (why : Refusal) → (output_in (Some page) b room).build ≡ Err why → PagedRises b why (raised b (rule_raised why))
   paged-rises why e = from (said_of page b) refl e
     where
-      from : (v : Verdict) → said_of page b ≡ v → (after_said v (build_of b room)).build ≡ Refused why → Becomes why
+      from : (v : Verdict) → said_of page b ≡ v → (after_said v (build_of b room)).build ≡ Err why → Becomes why
       from Accepted f h = from-build why h
-      from (Turned x) f h = subst Becomes (refused-same h) (said-becomes x f)
+      from (Err x) f h = subst Becomes (refused-same h) (said-becomes x f)
 
 -- The number stays.
 pub same-paged-number : {b : Input} {why other : Refusal} → PagedRises b why other → number_of other ≡ number_of why

@@ -1,16 +1,14 @@
 -- Theorems about what Says defines.
-use Rattle.std.specs.Prelude.{List, [], ◌∷◌, ◌++◌, map, ◌≡◌, refl, ℕ, ◌+◌, ◌*◌, ◌-◌, ◌≤◌, min, length, take, drop, replicate}
+use Rattle.std.specs.Prelude.{List, [], ◌∷◌, ◌++◌, map, ◌≡◌, refl, ℕ, ◌+◌, ◌*◌, ◌-◌, ◌≤◌, min, length, take, drop, replicate, Ok, Option}
 use Rattle.std.proofs.Common.{sym, ap, ap₂, ◌∙◌, add-zero, arith}
 use Rattle.std.proofs.Math.Seq.{take-append_seam}
 use Rattle.prelude.specs.Limits.{max_banks}
-use Rattle.prelude.specs.declared.Opt.{Opt}
 use Rattle.bankdef.specs.Check.{no_bank}
 use Rattle.bankdef.specs.declared.Bankdef.{Bankdef}
 use Rattle.bankdef.specs.declared.Bankdefs.{Bankdefs}
 use Rattle.nodes.specs.Lists.{Lists, lists}
 use Rattle.output.specs.Output.{Input, input, Lent, Room, left_by, visits_of}
 use Rattle.output.specs.declared.Output.{Output}
-use Rattle.form_fields.specs.declared.Form.TheVariants.{Sound}
 use Rattle.form_fields.specs.declared.Kind.{Kind}
 use Rattle.form_fields.specs.Words.{byte, word32}
 use Rattle.form_fields.specs.Kind.{Known, kind_of}
@@ -122,7 +120,7 @@ module _ {k : Kind} (known : Known k) (c : Contents) (fits : Fits k c) where
 
   module _ (short : length file ≤ k.longest) where
     -- It is sound, with the counts of its contents.
-    pub form-said : form_of file ≡ Sound (shape_for k c)
+    pub form-said : form_of file ≡ Ok (shape_for k c)
     form-said = ap (λ (m : Kind). form_in m file) kind ∙ written-sound known c fits short
 
     pub lists-said : lists_in file ≡ lists_for c
@@ -139,7 +137,7 @@ module _ {k : Kind} (known : Known k) (c : Contents) (fits : Fits k c) where
     input-said fill = ap₂ (λ (t : Bankdefs) (l : Lists). input t l (choices_of (shape_for k c) fill)) table-said lists-said
 
     -- What the build of a file answers is the build's answer for what its contents say,
-    pub written-output : (fill : ℕ) (page : Opt) (room : Room) → file_output file fill page room ≡ output_in page (input_for k c fill) room
+    pub written-output : (fill : ℕ) (page : Option ℕ) (room : Room) → file_output file fill page room ≡ output_in page (input_for k c fill) room
     written-output fill page room =
         ap (output_by file fill page room) form-said ∙ ap (λ (x : Input). output_in page x room) (input-said fill)
 
@@ -147,10 +145,10 @@ module _ {k : Kind} (known : Known k) (c : Contents) (fits : Fits k c) where
     abbrev leaves : Lent → Output → Input → Lent
     leaves old r x = left_by x.banks (visits_of x r.passes) x.lists.values old r.build
 
-    pub from-written : {fill : ℕ} {page : Opt} {old new : Lent} {r : Output} → FileBuilt file fill page old r new → BuiltIn page (input_for k c fill) old r new
+    pub from-written : {fill : ℕ} {page : Option ℕ} {old new : Lent} {r : Output} → FileBuilt file fill page old r new → BuiltIn page (input_for k c fill) old r new
     from-written {fill} {page} {old} {new} {r} p =
         record { answer = p.answer ∙ written-output fill page _; left = p.left ∙ ap (leaves old r) (input-said fill) }
 
-    pub to-written : {fill : ℕ} {page : Opt} {old new : Lent} {r : Output} → BuiltIn page (input_for k c fill) old r new → FileBuilt file fill page old r new
+    pub to-written : {fill : ℕ} {page : Option ℕ} {old new : Lent} {r : Output} → BuiltIn page (input_for k c fill) old r new → FileBuilt file fill page old r new
     to-written {fill} {page} {old} {new} {r} p =
         record { answer = p.answer ∙ sym (written-output fill page _); left = p.left ∙ sym (ap (leaves old r) (input-said fill)) }

@@ -1,12 +1,11 @@
 -- A form 2 file with the shape of Ticket 13, converted back. "The way back takes exactly that shape to the one-bank file": the build of the one-bank file
 -- leaves everything lent as the build of the file with the shape does, and their answers are one but for the places.
-use Rattle.std.specs.Prelude.{true, List, ◌≡◌, refl, ℕ, ◌≤◌, length, take, drop}
+use Rattle.std.specs.Prelude.{true, List, ◌≡◌, refl, ℕ, ◌≤◌, length, take, drop, Ok}
 use Rattle.std.proofs.Common.{sym, ap, subst, ◌∙◌, arith}
 use Rattle.prelude.specs.Limits.{max_nodes}
 use Rattle.form_fields.specs.Kind.{form1, form2, is2}
 use Rattle.form_fields.specs.Contents.{Contents, written, Fits}
 use Rattle.form_fields.specs.Whole.{contents_in, Bytes}
-use Rattle.form_convert.specs.declared.Conversion.TheVariants.{Converted}
 use Rattle.form_rewrite.specs.Turning.{shaped, narrowed, widened, drops_bit, to_form1}
 use Rattle.form_convert.specs.Convert.{ToForm1}
 use Rattle.form_rewrite.specs.Laws.Fitting.{narrowed-fits, rest-long, shape_two, shape-some}
@@ -32,7 +31,7 @@ module _ (d : Contents) (fits : Fits form2 d) (shape : shaped d ≡ true) (few :
 
 -- What is known of a file with the shape that was converted back: what was written is the file of contents with one bank, and the file given is that of what
 -- they become.
-pub converted-back-single : (file out : List ℕ) (n : ℕ) (new : List ℕ) → Bytes file → ToForm1 file out (Converted n) new
+pub converted-back-single : (file out : List ℕ) (n : ℕ) (new : List ℕ) → Bytes file → ToForm1 file out (Ok n) new
     → shaped (contents_in form2 file) ≡ true
     → Single (narrowed (contents_in form2 file)) × (take n new ≡ written form1 (narrowed (contents_in form2 file)))
     × (file ≡ written form2 (widened (narrowed (contents_in form2 file))))

@@ -1,5 +1,5 @@
 -- A call that writes records into a buffer in which every file of theirs fits leaves all of them, or says why not.
-use Rattle.std.specs.Prelude.{◌≡◌, Bool, ◌&&◌, ◌||◌, List, ◌++◌, ℕ, ◌≤◌, leb, eqb, length, drop}
+use Rattle.std.specs.Prelude.{◌≡◌, Bool, ◌&&◌, ◌||◌, List, ◌++◌, ℕ, ◌≤◌, leb, eqb, length, drop, Result, Ok, Err}
 use Rattle.std.proofs.Math.Path.{refl}
 use Rattle.std.proofs.Common.{sym, subst, arith, le-leb, leb-true, eq-eqb, eqb-true}
 use Rattle.std.proofs.Math.Bool.{true, false}
@@ -13,8 +13,6 @@ use Rattle.record_write.specs.Checks.{all_parts, all_placed, all_short}
 use Rattle.record_write.specs.Cut.{blocks_in}
 use Rattle.record_write.specs.Outcome.{input, sound, Writes}
 use Rattle.record_write.specs.Text.{text_of}
-use Rattle.record_write.specs.declared.Written.{Written}
-use Rattle.record_write.specs.declared.Written.TheVariants.{Length, Refused}
 use Rattle.thm_record_room.specs.Records.{format_ok, records_or, PutsOr, HasRoom}
 use Rattle.thm_record_room.specs.Laws.Calls.{blocks-in}
 use Rattle.thm_record_room.specs.Theorems.Room.{records-length}
@@ -24,8 +22,8 @@ module _ (say : Refusal → List ℕ) (format load : ℕ) (image : List ℕ) (bl
   abbrev all : List ℕ
   all = text_of format load image blocks
 
-  abbrev answer : Bool → Bool → Bool → Written
-  answer p q f = pick p (pick q (pick f (Length (length all)) (Refused (TooShort 3))) (Refused (Malformed 0))) (Refused BadPart)
+  abbrev answer : Bool → Bool → Bool → Result ℕ Refusal
+  answer p q f = pick p (pick q (pick f (Ok (length all)) (Err (TooShort 3))) (Err (Malformed 0))) (Err BadPart)
 
   abbrev left : Bool → List ℕ
   left t = pick t (all ++ drop (length all) old) old
@@ -40,11 +38,11 @@ module _ (say : Refusal → List ℕ) (format load : ℕ) (image : List ℕ) (bl
   by_tests true false f a b c = (rw (a, b) refl, refl)
   by_tests false q f a b c = (rw a refl, refl)
 
-  writes-all : (q : Bool) → format_ok format load blocks && all_placed load blocks ≡ q → {r : Written} {new : List ℕ}
+  writes-all : (q : Bool) → format_ok format load blocks && all_placed load blocks ≡ q → {r : Result ℕ Refusal} {new : List ℕ}
       → r ≡ answer (all_parts (length image) blocks) q (leb (length all) (length old))
       → new ≡ left (all_parts (length image) blocks && q && leb (length all) (length old)) → PutsOr say format load image blocks old r new
   writes-all q e {r} {new} is lent =
-      subst (λ (x : Written). PutsOr say format load image blocks old x new) (sym is)
+      subst (λ (x : Result ℕ Refusal). PutsOr say format load image blocks old x new) (sym is)
       (subst (λ (l : List ℕ). PutsOr say format load image blocks old (answer (all_parts (length image) blocks) q (leb (length all) (length old))) l) (sym lent)
       (by_tests (all_parts (length image) blocks) q (leb (length all) (length old)) refl e refl))
 
@@ -66,7 +64,7 @@ module _ (image offsets sizes : List ℕ) (load : ℕ) (old : List ℕ) (good : 
       → length (text_of format load image (blocks_in offsets sizes)) ≤ length old
   fit format p q = omega (arith, records-length format load image (blocks_in offsets sizes) good p q, blocks-in offsets sizes, room)
 
-  pub puts-records : (say : Refusal → List ℕ) (format : ℕ) {r : Written} {new : List ℕ} → Writes (input format image offsets sizes load) old r new
+  pub puts-records : (say : Refusal → List ℕ) (format : ℕ) {r : Result ℕ Refusal} {new : List ℕ} → Writes (input format image offsets sizes load) old r new
       → PutsOr say format load image (blocks_in offsets sizes) old r new
   puts-records say format w =
       let blocks = blocks_in offsets sizes in

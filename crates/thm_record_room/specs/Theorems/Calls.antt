@@ -1,11 +1,11 @@
 -- Theorems about what Calls defines.
-use Rattle.std.specs.Prelude.{◌≡◌, true, List, ℕ, ◌≤◌, length}
+use Rattle.std.specs.Prelude.{◌≡◌, true, List, ℕ, ◌≤◌, length, Result}
 use Rattle.std.proofs.Common.{arith}
+use Rattle.prelude.specs.declared.Refusal.{Refusal}
 use Rattle.bitvec.specs.Bits.{Bytes}
 use Rattle.record_write.specs.Checks.{all_parts, all_placed}
 use Rattle.record_write.specs.Cut.{blocks_in}
 use Rattle.record_write.specs.Text.{text_of}
-use Rattle.record_write.specs.declared.Written.{Written}
 use Rattle.record_write.specs.Hex.{WritesHex}
 use Rattle.record_write.specs.Srec.{WritesSrec}
 use Rattle.thm_record_room.specs.Theorems.Room.{records-length}
@@ -26,7 +26,7 @@ module _ (image offsets sizes : List ℕ) (load : ℕ) (old : List ℕ) (good : 
   at-turning h room format p q =
       omega (arith, records-length format load image (blocks_in offsets sizes) good p q, blocks-in offsets sizes)
 
-  module _ {r : Written} {new : List ℕ} where
+  module _ {r : Result ℕ Refusal} {new : List ℕ} where
     pub station-hex : length image ≤ 16384 → 131072 ≤ length old → WritesHex image offsets sizes load old r new → NotShort r
     station-hex h room = hex-fits image offsets sizes load old (at-station h room)
 

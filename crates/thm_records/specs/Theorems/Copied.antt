@@ -1,11 +1,11 @@
 -- What was read from a file is accepted for writing, and a file of it gives the same bytes at the same addresses. Document 02, Ticket 12: "A file read from
 -- S-records and written as Intel HEX gives the same bytes at the same addresses."
-use Rattle.std.specs.Prelude.{◌≡◌, refl, true, List, ◌↔◌, ℕ, suc, ◌+◌, ◌-◌, ◌*◌, ◌/◌, ◌≤◌, length, get_or, take}
+use Rattle.std.specs.Prelude.{◌≡◌, refl, true, List, ◌↔◌, ℕ, suc, ◌+◌, ◌-◌, ◌*◌, ◌/◌, ◌≤◌, length, get_or, take, Result}
 use Rattle.std.proofs.Common.{sym, ap, subst, ◌∙◌, arith}
 use Rattle.prelude.specs.Told.{gives}
+use Rattle.prelude.specs.declared.Refusal.{Refusal}
 use Rattle.bitvec.specs.Bits.{Bytes}
 use Rattle.blocks.specs.declared.Block.{Block}
-use Rattle.blocks.specs.declared.Blocks.{Blocks}
 use Rattle.blocks.specs.Bits.{InBlock}
 use Rattle.blocks.specs.Outcome.{sizes, ToldBy}
 use Rattle.record_lines.specs.Pieces.{Piece, GivesAt}
@@ -28,7 +28,6 @@ use Rattle.record_write.specs.Theorems.Bytes.{pieces-give-exactly}
 use Rattle.record_write.specs.Checks.{all_parts, all_placed}
 use Rattle.record_write.specs.Cut.{pieces_of}
 use Rattle.record_write.specs.Outcome.{told_written}
-use Rattle.record_write.specs.declared.Written.{Written}
 use Rattle.record_write.specs.Hex.{WritesHex}
 use Rattle.thm_records.specs.Laws.Trip.{highest-within, part_of}
 use Rattle.thm_records.specs.Laws.Copied.{fine-within, runs-parts, runs-placed}
@@ -107,7 +106,7 @@ module _ (format load : ℕ) (text : List ℕ) (l : List Piece) (reads : read_te
     pub copied : (a b : ℕ) → GivesAt (pieces_of load image blocks) a b ↔ GivesAt l a b
     copied a b = (to a b, from a b)
 
-module _ (format load : ℕ) (text : List ℕ) (old : Lent) (r : Blocks) (new : Lent) (c : Reads load (read_text format load text) old r new) (n : ℕ)
+module _ (format load : ℕ) (text : List ℕ) (old : Lent) (r : Result ℕ Refusal) (new : Lent) (c : Reads load (read_text format load text) old r new) (n : ℕ)
     (found : ToldBy r ≡ gives n) where
   abbrev given' : List Piece
   given' = (found-good load old (read_text format load text) r new c n found).0

@@ -1,7 +1,6 @@
 -- What `prog_map` prints for the same two files, computed from their bytes by the definition that its contract cites: where each node stands, and in March's
 -- file which one is at fault.
-use Rattle.std.specs.Prelude.{◌≡◌, refl, ◌++◌}
-use Rattle.prelude.specs.declared.Opt.TheVariants.{None}
+use Rattle.std.specs.Prelude.{◌≡◌, refl, ◌++◌, None}
 use Rattle.bankdef.specs.Check.{first_pair}
 use Rattle.bankdef.specs.Search.{first_where}
 use Rattle.iter.specs.Address.{address_of}

@@ -1,8 +1,7 @@
 -- What `layout` prints for two files, computed from their bytes by the definitions that its contract cites: the file is sound, its layout is accepted or
 -- refused, and the text follows.
-use Rattle.std.specs.Prelude.{◌≡◌, refl, List, ◌++◌, ℕ}
+use Rattle.std.specs.Prelude.{◌≡◌, refl, List, ◌++◌, ℕ, None}
 use Rattle.std.proofs.Common.{ap, ◌∙◌, arith}
-use Rattle.prelude.specs.declared.Opt.TheVariants.{None}
 use Rattle.bankdef.specs.Check.{banks_of, first_pair}
 use Rattle.bankdef.specs.Search.{first_where}
 use Rattle.bankdef.specs.Fill.{fill_from}

@@ -1,5 +1,5 @@
 -- The nodes so far keep the rule; the first that does not is named.
-use Prim.Native.Nat.{◌-◌, ◌≤◌}
+use Prim.Native.Nat.{◌/◌}
 use mathlib.Core.List.{[]}
 use lib.ListN.{length}
 use Rattle.build_profile.specs.Laws.RuleLaws.{KeptTo}
@@ -8,7 +8,4 @@ use Rattle.build_profile.specs.Steps.{nodes_of}
 use Rattle.build_profile.proofs.rules.check_aligns.Given as goal
 
 abbrev pub invariant-loop-i : goal.invariant-loop-i
-invariant-loop-i l = (l.i ≤ length l.kinds) × KeptTo (aligns_kept (nodes_of l.kinds [] l.numbers l.rows)) l.i
-
-abbrev pub decreases-loop-i : goal.decreases-loop-i
-decreases-loop-i l = length l.kinds - l.i
+invariant-loop-i l = KeptTo (aligns_kept (nodes_of l.kinds [] l.numbers (length l.numbers / length l.kinds))) l.i

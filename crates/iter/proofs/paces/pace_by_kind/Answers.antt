@@ -1,6 +1,8 @@
 -- The step in numbers: each arm is a law of PaceLaws.
 use mathlib.Core.Path.{◌≡◌, ◌∙◌, sym}
 use mathlib.Core.Bool.{false}
+use mathlib.Core.Logic.{⊎_elim}
+use Rattle.nodes.specs.declared.kinds.Doing.TheVariants.{Stays, Switches}
 use Rattle.nodes.specs.Laws.Kinds.{numbers}
 use Rattle.iter.specs.Step.{bad_state}
 use Rattle.iter.proofs.PaceLaws.{stay-told, switch-told, add-told, set_told, other-told}
@@ -16,14 +18,10 @@ returns-in-Stays c =
     -- past the test of the state
     let sound : bad_state c.args.node ≡ false =
     sym c.is_bad_state.ensures ∙ c.if-is_bad_state.false in
-    paces-stay _ _ _ (sound) (stay-told (numbers _ c.does.ensures c.in-Stays.is)) c.stood.ensures
-
-pub returns-in-Switches : goal.returns-in-Switches
-returns-in-Switches c =
-    -- past the test of the state
-    let sound : bad_state c.args.node ≡ false =
-    sym c.is_bad_state.ensures ∙ c.if-is_bad_state.false in
-    paces-switch _ _ _ (sound) (switch-told (numbers _ c.does.ensures c.in-Switches.is)) c.stood-in-Switches.ensures
+    ⊎_elim
+    (λ (e : c.does.result ≡ Stays). paces-stay _ _ _ (sound) (stay-told (numbers _ c.does.ensures e)) c.stood.ensures)
+    (λ (e : c.does.result ≡ Switches). paces-switch _ _ _ (sound) (switch-told (numbers _ c.does.ensures e)) c.stood.ensures)
+    c.in-Stays.is
 
 pub returns-in-Adds : goal.returns-in-Adds
 returns-in-Adds c =

@@ -1,9 +1,9 @@
 -- A symbol: by whether it is of depth 0, and by cases of the label alignment.
 use Prim.Native.Nat.{◌<◌}
-use mathlib.Core.Path.{◌≡◌, ◌∙◌, sym}
+use mathlib.Core.Path.{◌≡◌}
 use mathlib.Core.Bool.{true}
 use native.Mathlib.Omega.{arith}
-use borrow.Author.Tests.{not-true, not-false}
+use borrow.Author.Rules.{rules}
 use Rattle.iter.specs.Distance.{tellable}
 use Rattle.iter.specs.Step.{outermost_symbol}
 use Rattle.iter.proofs.PaceLaws.{outermost, deeper, paces-plain, paces-unaligned, paces-symbol, paces-symbol-untold}
@@ -22,7 +22,7 @@ returns-then-not-is_tellable c =
     -- past the first test, and past the second
     let symbol : outermost_symbol c.args.node ≡ true =
     outermost c.args.node c.requires.le_kind c.if-node-ne0.false in
-    paces-symbol-untold _ _ _ c.requires.node_value _ (symbol) c.in-Some.is (few) (sym c.is_tellable.ensures ∙ not-true _ c.if-not-is_tellable.true-raw)
+    paces-symbol-untold _ _ _ c.requires.node_value _ (symbol) c.in-Some.is (few) (search rules)
     c.halted.ensures
 
 pub returns-in-None : goal.returns-in-None
@@ -39,6 +39,6 @@ returns-else-not-is_tellable c =
     let symbol : outermost_symbol c.args.node ≡ true =
     outermost c.args.node c.requires.le_kind c.if-node-ne0.false in
     let tells : tellable c.args.def ≡ true =
-    sym c.is_tellable.ensures ∙ not-false _ c.if-not-is_tellable.false-raw in
+    search rules in
     paces-symbol _ _ _ c.requires.node_value _ (symbol) c.in-Some.is (few) c.distance_in_bits.result (tells) c.distance_in_bits.ensures
     c.in_units.ensures c.aligned_first.ensures

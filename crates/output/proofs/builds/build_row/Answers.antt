@@ -3,7 +3,6 @@ use mathlib.Core.Path.{◌≡◌, ap, ◌∙◌}
 use mathlib.Core.Bool.{Bool}
 use Prim.Native.Nat.{ℕ, min}
 use lib.ListN.{length}
-use Rattle.prelude.specs.declared.Verdict.TheVariants.{Accepted}
 use Rattle.bankdef.specs.Check.{banks_of}
 use Rattle.bankdef.specs.Fill.{fill_by}
 use Rattle.nodes.specs.Lists.{Row, row_with}
@@ -15,6 +14,7 @@ use Rattle.output.specs.Output.{Lent, lent, room_of}
 use Rattle.output.specs.Steps.{room_verdict}
 use Rattle.output.proofs.BuildLaws.{has_room}
 use Rattle.output.proofs.builds.build_row.Goals as goal
+use Rattle.prelude.specs.Verdict.{Accepted}
 
 pub write_row-requires-clause-has_room : goal.write_row-requires-clause-has_room
 write_row-requires-clause-has_room c =
@@ -35,12 +35,12 @@ write_row-requires-clause-has_room c =
     ∙ ap (λ (b : Bool). plan_of (given) (row) b c.fill_length-fill.result) c.closes_default-closed.ensures
     ∙ ap (plan_of (given) (row) (closed)) c.fill_length-fill.ensures.0) in
     -- the verdict on the room is the definition's
-    let room-told : c.room_for-room.result ≡ room_verdict (length c.args.image.now) (room_of (old)).spans c.plan_row-plan.result.length c.plan_row-plan.result.spans =
-    c.room_for-room.ensures
+    let room-told : c.room_for.result ≡ room_verdict (length c.args.image.now) (room_of (old)).spans c.plan_row-plan.result.length c.plan_row-plan.result.spans =
+    c.room_for.ensures
     ∙ ap (λ (n : ℕ). room_verdict (length c.args.image.now) n c.plan_row-plan.result.length c.plan_row-plan.result.spans)
-    (c.lesser-places.ensures ∙ ap (min (length c.args.addresses.now)) c.lesser-two.ensures) in
+    (c.min-places.ensures ∙ ap (min (length c.args.addresses.now)) c.min.ensures) in
     -- no node is refused
     let passes-nodes : c.plan_row-plan.result.verdict ≡ Accepted =
     c.in_default.is in
     has_room (given) (row) (closed) (fill) c.args.k c.args.passes c.args.values.now (old) c.plan_row-plan.result (planned)
-    (passes-nodes) (room-told) c.in_default-room.is c.requires.in_values
+    (passes-nodes) (room-told) c.in_default-room_for.is c.requires.in_values

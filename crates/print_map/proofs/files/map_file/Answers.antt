@@ -8,10 +8,10 @@ use Rattle.print_map.proofs.files.map_file.Goals as goal
 
 pub map_read-requires-clause-held_in : goal.map_read-requires-clause-held_in
 map_read-requires-clause-held_in c =
-    held c.args.file.now c.in-Sound.shape (sym c.read_shape.ensures.is ∙ c.in-Sound.is) _ _ _ _ (omega arith) (omega arith) (omega arith) (omega arith)
+    held c.args.file.now c.in-Ok.shape (sym c.read_shape.ensures.is ∙ c.in-Ok.is) _ _ _ _ (omega arith) (omega arith) (omega arith) (omega arith)
     c.read_lists.ensures.lists
 
-pub returns-in-Broken-clause-writes : goal.returns-in-Broken-clause-writes
-returns-in-Broken-clause-writes c =
-    let a = c.args in written_as (broken-text a.file.now a.fill a.page _ (sym c.read_shape.ensures.is ∙ c.in-Broken.is))
+pub returns-in-Err-clause-writes : goal.returns-in-Err-clause-writes
+returns-in-Err-clause-writes c =
+    let a = c.args in written_as (broken-text a.file.now a.fill a.page _ (sym c.read_shape.ensures.is ∙ c.in-Err.is))
     c.write_refused.ensures.writes

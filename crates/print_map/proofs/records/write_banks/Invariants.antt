@@ -1,11 +1,8 @@
 -- `write_banks` meets its contract: the banks passed stand in the buffer, and those left have room.
-use Prim.Native.Nat.{◌+◌, ◌-◌, ◌*◌, ◌≤◌}
+use Prim.Native.Nat.{◌+◌, ◌*◌, ◌≤◌}
 use Rattle.print_text.specs.Puts.{Writes}
 use Rattle.print_map.specs.Text.{banks_text}
 use Rattle.print_map.proofs.records.write_banks.Given as goal
 
 abbrev pub invariant-loop-i : goal.invariant-loop-i
-invariant-loop-i l = (l.i ≤ l.count) × (l.end ≤ l.at + 230 * l.i) × Writes (banks_text l.banks l.padding l.i) l.initial.out l.at l.end l.out
-
-abbrev pub decreases-loop-i : goal.decreases-loop-i
-decreases-loop-i l = l.count - l.i
+invariant-loop-i l = (l.end ≤ l.at + 230 * l.i) × Writes (banks_text l.banks l.fn.padding l.i) l.initial.out l.at l.end l.out

@@ -5,7 +5,7 @@ use Rattle.print_map.specs.Text.{fault_text}
 use Rattle.print_map.proofs.Lines.{one_number, written_as}
 use Rattle.print_map.proofs.records.write_fault.Goals as goal
 
-pub returns-in-At-clause-writes : goal.returns-in-At-clause-writes
-returns-in-At-clause-writes c =
-    written_as (one_number (ascii "fault") _ ∙ sym (ap fault_text c.in-At.is))
+pub returns-in-Some-clause-writes : goal.returns-in-Some-clause-writes
+returns-in-Some-clause-writes c =
+    written_as (one_number (ascii "fault") _ ∙ sym (ap fault_text c.in-Some.is))
     c.write_line.ensures.writes

@@ -1,5 +1,4 @@
 use mathlib.Core.Path.{sym}
-use Prim.Native.Nat.{◌-◌}
 use native.Mathlib.Omega.{arith}
 use Rattle.print_map.proofs.Lines.{nodes-none, nodes-next, written_as}
 use Rattle.print_text.specs.Laws.Sets.{writes_then, writes-none}

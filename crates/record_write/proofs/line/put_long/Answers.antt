@@ -7,7 +7,6 @@ pub returns : goal.returns
 returns c =
     let a = c.args in
     long-line a.out.now a.bytes.now a.digit a.address (5 + length a.bytes.now) c.byte_of-a.result c.byte_of-b.result
-    c.byte_of-c.result c.byte_of-d.result c.sum.result c.sum_four.result c.wrapping_add_u8.result
-    c.wrapping_add_u8-sum.result c.put_tail.result refl c.byte_of-a.ensures c.byte_of-b.ensures c.byte_of-c.ensures
-    c.byte_of-d.ensures c.sum.ensures c.sum_four.ensures c.wrapping_add_u8.ensures.value c.wrapping_add_u8-sum.ensures.value
+    c.byte_of-c.result c.byte_of-d.result c.sum.result c.sum_four.result _ _ c.put_tail.result refl c.byte_of-a.ensures c.byte_of-b.ensures c.byte_of-c.ensures
+    c.byte_of-d.ensures c.sum.ensures c.sum_four.ensures refl refl
     c.put_s_head.ensures.out_after c.put_byte.ensures.out_after c.put_byte-2.ensures.out_after c.put_tail.ensures.out_after c.put_tail.ensures.value

@@ -1,21 +1,12 @@
-use Rattle.std.proofs.Common.{refl, arith}
-use Rattle.record_lines.specs.Sums.{sum_of}
-use Rattle.record_lines.specs.Laws.Sums.{sum-one-more}
+-- `record_write::line::sum`: the low byte of the sum.
+use Rattle.std.proofs.Common.{ℕ, ◌+◌, ◌%◌, ◌∙◌, rules}
+use Rattle.std.proofs.lemmas.Iterator.{YieldsList-from_slice}
+use Rattle.std.proofs.lemmas.Iterator.Consumers.{fold_from_yields_List}
+use Rattle.record_write.proofs.LineLaws.{folded}
 use Rattle.record_write.proofs.line.sum.Goals as goal
 
-pub loop-i-init : goal.loop-i-init
-unfolding sum_of
-loop-i-init c =
-    (omega arith, refl)
-
-pub loop-i-preserved : goal.loop-i-preserved
-loop-i-preserved c =
-    let l = c.loop-i in (
-      omega arith,
-      omega (
-        arith,
-        l.invariant.1,
-        c.wrapping_add_u8-sum.ensures.value,
-        sum-one-more c.args.bytes.now l.i c.loop-i-test.true,
-      ),
-    )
+pub returns : goal.returns
+returns c =
+    fold_from_yields_List _ (λ (s b : ℕ). (s + b) % 256) 0 c.fold.result c.fold.ensures.ran (YieldsList-from_slice c.args.bytes.now cc)
+    (λ a x b q k. search rules)
+    ∙ folded c.args.bytes.now

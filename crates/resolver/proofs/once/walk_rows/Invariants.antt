@@ -10,10 +10,10 @@ use Rattle.resolver.specs.Stands.{Stands}
 use Rattle.resolver.proofs.once.walk_rows.Given as goal
 
 abbrev pub invariant-loop-i : goal.invariant-loop-i
-invariant-loop-i l = let p = program_with l.banks l.kinds l.operands l.first in
-    let row = row_with l.numbers l.states in
-    let before = row_with l.before_numbers l.before_states in
-    (l.i-end ≡ length l.kinds) × (l.i ≤ l.i-end) × (pass_to p row before l.is_first l.is_last l.i ≡ on (walk_to p row l.i) l.merged) × Stands p row l.i l.walks.at l.bank
+invariant-loop-i l = let p = program_with l.banks l.nodes.kinds.now l.nodes.operands.now l.nodes.first.now in
+    let row = row_with l.row.numbers.now l.row.states.now in
+    let before = row_with l.row_before.numbers.now l.row_before.states.now in
+    (l.i-end ≡ length l.nodes.kinds.now) × (l.i ≤ l.i-end) × (pass_to p row before l.is_first l.is_last l.i ≡ on (walk_to p row l.i) l.merged) × Stands p row l.i l.walks.at l.bank
     × (l.alone ≡ false → Stands p before l.i l.walks.old l.bank)
 
 abbrev pub decreases-loop-i : goal.decreases-loop-i

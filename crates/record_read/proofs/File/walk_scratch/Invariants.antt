@@ -1,0 +1,15 @@
+-- `record_read::File::walk_scratch`: each turn goes on over a window, whose scratch is zeros before and behind it.
+use Prim.Native.Nat.{◌-◌}
+use mathlib.Core.Path.{◌≡◌}
+use Rattle.record_scan.specs.Trail.{trail}
+use Rattle.record_read.specs.Runs.{is_given}
+use Rattle.record_read.specs.Steps.{Listed}
+use Rattle.record_read.proofs.File.walk_scratch.Given as goal
+
+abbrev pub invariant-loop-from : goal.invariant-loop-from
+invariant-loop-from l =
+    Listed (is_given l.self.load (trail l.self.format l.self.text.now l.self.n).given)
+    l.initial.offsets l.initial.sizes l.walk.run l.from l.walk.count l.offsets l.sizes × (l.scratch ≡ l.initial.scratch)
+
+abbrev pub decreases-loop-from : goal.decreases-loop-from
+decreases-loop-from l = l.self.end - l.from
