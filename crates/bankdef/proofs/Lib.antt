@@ -1,3 +1,4 @@
 pub mod Walk
+pub mod Loops
 pub mod Raise
 pub mod Unique

@@ -212,10 +212,11 @@ module _ (l : List Bankdef) (bits bytes : ℕ) where
   unfolding blank_of
   laid-all i all = ap (of_bits bytes) (fun_ext (λ k. ap (λ (x : ℕ). pick (ltb k bits) x 0) (same-fill i all k)))
 
--- the banks from bank 1 on, by number
-pub from-one : (l : List Bankdef) (n k : ℕ) → k < length (take (n - 1) (drop 1 l)) → get_or (take (n - 1) (drop 1 l)) k no_bank ≡ get_or (take n l) (1 + k) no_bank
-from-one l n k h =
-    let low : k < n - 1 = omega (arith, length-take (n - 1) (drop 1 l)) in
-    get_or-take (n - 1) (drop 1 l) k no_bank low
+-- the banks from bank 1 on and before `end`, by number
+pub from-one : (l : List Bankdef) (n end k : ℕ) → k < length (take (end - 1) (drop 1 l)) → 1 + k < n
+    → get_or (take (end - 1) (drop 1 l)) k no_bank ≡ get_or (take n l) (1 + k) no_bank
+from-one l n end k h low =
+    let below : k < end - 1 = omega (arith, length-take (end - 1) (drop 1 l)) in
+    get_or-take (end - 1) (drop 1 l) k no_bank below
     ∙ get_or-drop 1 l k no_bank
-    ∙ sym (get_or-take n l (1 + k) no_bank (omega arith))
+    ∙ sym (get_or-take n l (1 + k) no_bank low)

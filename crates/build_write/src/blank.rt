@@ -1,11 +1,11 @@
 // The image before any item is written.
-ghost use Rattle.std.specs.Prelude.{◌≡◌, ◌≤◌, length};
-ghost use Rattle.prelude.specs.Limits.{max_banks};
+ghost use Rattle.std.specs.Prelude.{◌≡◌, length};
 ghost use Rattle.bankdef.specs.Check.{banks_of};
 ghost use Rattle.build_write.specs.Blank.{blank_of};
 ghost use Rattle.build_write.specs.Steps.{OnesOf};
 
 use bankdef::{Bankdef, Bankdefs};
+use prelude::MAX_BANKS;
 
 // Where a bank's fill bits are ones, up to the image's length: from one bit to before another.
 #[derive(Clone, Copy)]
@@ -43,12 +43,12 @@ fn ones_of(def: Bankdef, bits: u64) -> Ones
 }
 
 // The image before any item is written: all clear, then ones where a bank's fill bit is one. "In a bank other than bank 0".
-pub(crate) fn lay_blank(banks: Bankdefs, bits: u64, image: &mut [u8])
-    requires { (1 ≤ banks.len) × (banks.len ≤ max_banks) }
+pub fn lay_blank(banks: Bankdefs, bits: u64, image: &mut [u8])
     ensures { image.new ≡ blank_of (banks_of banks) bits (length image.old) }
 {
     bitvec::clear(image);
-    for &def in &banks.defs[1..banks.len as usize] {
+    let end = banks.len.min(MAX_BANKS).max(1) as usize;
+    for &def in &banks.defs[1..end] {
         let ones = ones_of(def, bits);
         bitvec::set_ones(image, ones.from, ones.end);
     }

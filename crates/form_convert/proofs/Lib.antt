@@ -1,4 +1,5 @@
 pub mod Back
 pub mod Laws
+pub mod Loops
 pub mod There
 pub mod Unique

@@ -43,7 +43,7 @@ module _ (test : ℕ → Bool) where
       ∙ ap (λ (m : ℕ). i + m) (length-on i (to - (i + 1)) e ∙ ap (λ (m : ℕ). suc (length_from test m (to - (i + 1)))) s)
       ∙ omega arith
 
-  length_none : (at : ℕ) → length_from test at zero ≡ 0
+  pub length_none : (at : ℕ) → length_from test at zero ≡ 0
   unfolding length_from
   length_none at = refl
 

@@ -1,5 +1,4 @@
-// The numbers a caller gets back, the limits, and the two-case answers that stand for the Rust's `Option`. Every crate of the
-// layout speaks of these through this one.
+// The numbers a caller gets back, the limits and the kinds. Every crate of the layout speaks of these through this one.
 #![tactic(auto)]
 
 ghost use Rattle.std.specs.Prelude.{◌≡◌, ◌&&◌, min, max};

@@ -169,7 +169,7 @@ fn stop_by(format: u8, text: &[u8], t: &[u8; 256], at: usize) -> usize
     if left < 4 {
         return text.len();
     }
-    at + long_by(format, text, t, at).min(left)
+    at + record_lines::least(long_by(format, text, t, at), left)
 }
 
 // The line that begins at a place, whose end is searched for, by a table that spells the digits; behind the text it is empty.

@@ -24,7 +24,8 @@ loop-def-preserved c =
     let k = c.loop-def.def-index in
     let ones = c.ones_of-ones in
     let range = subst (λ (b : Bankdef). OnesOf b a.bits ones.result.from ones.result.end)
-    (from-one a.banks.defs a.banks.len k c.loop-def-test.true) ones.ensures in
+    (from-one a.banks.defs a.banks.len _ k c.loop-def-test.true
+    (omega (arith, length-take {A = Bankdef}, length-drop {A = Bankdef}, c.loop-def-test.true))) ones.ensures in
     let next : 1 + (k + 1) ≡ 1 + k + 1 = omega arith in
     rw next
     (laid_next (banks_of a.banks) a.bits _ (1 + k) ones.result.from ones.result.end (omega arith) range c.loop-def.invariant c.set_ones.ensures.bytes)

@@ -1,11 +1,13 @@
 use mathlib.Core.Bool.{false}
+use mathlib.Core.List.{◌++◌}
+use mathlib.Core.Path.{◌≡◌, ap, ◌∙◌}
 use Prim.Native.Nat.{◌-◌}
 use native.Mathlib.Omega.{arith}
 use Rattle.blocks.specs.Walk.{block, kept}
-use Rattle.blocks.specs.Laws.Put.{filling-on, filling-ends}
-use Rattle.overlay.specs.Runs.{agree, differ, runs_from}
+use Rattle.blocks.specs.Laws.Put.{filling-on, filling-ends, kept-none}
+use Rattle.overlay.specs.Runs.{agree, differ, length_from, runs_from}
 use Rattle.overlay.specs.Laws.RunFacts.{length-le}
-use Rattle.overlay.proofs.RunLaws.{kept-few, turn, turn-moves, runs-end}
+use Rattle.overlay.proofs.RunLaws.{kept-few, turn, turn-moves, runs-end, length_none}
 use Rattle.overlay.proofs.Images.list_stretch.Goals as goal
 
 pub next_agreement-end-requires : goal.next_agreement-end-requires
@@ -43,6 +45,21 @@ loop-at-preserved c =
           l.invariant.1
           c.push-n.ensures.put,
     )
+
+-- nothing differs any more: the next run would be empty, and behind it there is none
+pub returns-then-self-first : goal.returns-then-self-first
+returns-then-self-first c =
+    let a = c.args in
+    let l = c.loop-at in
+    let same = agree a.self.now.overlay.now a.self.now.released.now in
+    let t = differ a.self.now.overlay.now a.self.now.released.now in
+    let first = c.next_difference-first.result in
+    let empty : length_from t first (a.self.now.to - first) ≡ 0 = ap (length_from t first) {y = 0} (omega arith) ∙ length_none t first in
+    let more =
+    turn same l.at a.self.now.to first first (omega (arith, c.loop-at-test.true)) c.next_difference-first.ensures (omega (arith, empty)) in
+    filling-ends
+    (more ∙ ap (λ r. r ++ runs_from t first (a.self.now.to - first) false) (kept-none (block first (first - first)) (omega arith))
+    ∙ runs-end t first a.self.now.to (omega arith)) l.invariant.1
 
 pub returns : goal.returns
 returns c =
